@@ -18,7 +18,7 @@ Field = Tuple[str, int]
 """The name of a field, and how many bytes it has."""
 
 Kinds = List[str]
-"""What a call is handed, as a processor has it: `ptr`, or `u16`, `u32` and `usize`."""
+"""What a call is handed, as a processor has it: `ptr`, or `u16`, `u32`, `u64` and `usize`."""
 
 WIDEST = 8
 """No value begins at a place that isn't a multiple of its width, or of this if it is wider."""
@@ -27,14 +27,32 @@ POINTER = "ptr"
 REFUSAL_LEN = 24
 
 # How many bytes a value has on x86-64, by its type in each of the languages.
-HEADER_WIDTHS = {"uint32_t": 4, "size_t": 8, "void *": 8, "struct bootkeep_refusal": REFUSAL_LEN}
-PACKAGE_WIDTHS = {"c_uint32": 4, "c_size_t": 8, "c_void_p": 8, "RawRefusal": REFUSAL_LEN}
-CRATE_WIDTHS = {"u32": 4, "usize": 8, "*mut u8": 8, "Global": 0, "Refusal": REFUSAL_LEN}
-RUST_WIDTHS = {"u32": 4, "usize": 8, "*mut u8": 8, "RawRefusal": REFUSAL_LEN}
+HEADER_WIDTHS = {
+    "uint32_t": 4,
+    "uint64_t": 8,
+    "size_t": 8,
+    "void *": 8,
+    "struct bootkeep_refusal": REFUSAL_LEN,
+}
+PACKAGE_WIDTHS = {
+    "c_uint32": 4,
+    "c_uint64": 8,
+    "c_size_t": 8,
+    "c_void_p": 8,
+    "RawRefusal": REFUSAL_LEN,
+}
+CRATE_WIDTHS = {"u32": 4, "u64": 8, "usize": 8, "*mut u8": 8, "Global": 0, "Refusal": REFUSAL_LEN}
+RUST_WIDTHS = {"u32": 4, "u64": 8, "usize": 8, "*mut u8": 8, "RawRefusal": REFUSAL_LEN}
 
 # What a value that is no pointer is, by its type in each of the languages.
-HEADER_KINDS = {"uint16_t": "u16", "uint32_t": "u32", "size_t": "usize"}
-PACKAGE_KINDS = {"c_uint16": "u16", "c_uint32": "u32", "c_size_t": "usize", "c_char_p": POINTER}
+HEADER_KINDS = {"uint16_t": "u16", "uint32_t": "u32", "uint64_t": "u64", "size_t": "usize"}
+PACKAGE_KINDS = {
+    "c_uint16": "u16",
+    "c_uint32": "u32",
+    "c_uint64": "u64",
+    "c_size_t": "usize",
+    "c_char_p": POINTER,
+}
 
 
 def read(file: Path) -> str:
@@ -257,7 +275,9 @@ PACKAGE_PREFIXES = {
     "Position": "POSITION_",
     "ReplyKind": "REPLY_",
     "RequestKind": "REQUEST_",
+    "Same": "SAME_",
     "Stage": "STAGE_",
+    "Standing": "STANDING_",
 }
 """What the names of the members of these classes of the package begin with in the header."""
 

@@ -54,6 +54,7 @@ class Names(NamedTuple):
 STRUCTS = {
     "bootkeep_refusal": Names("RawRefusal", "refusal.rt", "Refusal"),
     "bootkeep_option_parts": Names("RawParts", "option.rt", "OptionPlaces"),
+    "bootkeep_frame_parts": Names("RawFrame", "frame_parts.rt", "FrameParts"),
     "bootkeep_variable": Names("RawVariable", "variable.rt", "VariablePlaces"),
     "bootkeep_signature_list": Names("RawList", "lists.rt", "ListPlaces"),
     "bootkeep_named": Names("RawNamed", "named.rt", "NamedEntry"),
@@ -64,6 +65,7 @@ STRUCTS = {
     "bootkeep_keeper": Names("RawKeeper", "handle.rt", "KeeperHandle"),
     "bootkeep_moves": Names("RawMoves", "session_handle.rt", "MovesHandle"),
     "bootkeep_moves_end": Names("RawEnd", "end.rt", "EndNumbers"),
+    "bootkeep_record_parts": Names("RawRecordParts", "record_places.rt", "RecordPlaces"),
 }
 
 # The calls that the crate for Rust leaves out: it has replies as values alone.

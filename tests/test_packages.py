@@ -205,16 +205,28 @@ class Notes(unittest.TestCase):
         self.assertIn("./check over these sources ended with: 9 passed, 0 failed\n", said)
 
 
+BUILT = (
+    package_files.ARCHIVE,
+    package_files.SHARED,
+    package_files.HEADER,
+    package_files.LINUX_ARCHIVE,
+    package_files.LINUX_SHARED,
+    package_files.LINUX_HEADER,
+)
+"""What the libraries are in the folder in which they are built, beside what pkg-config reads."""
+
+
 class Places(unittest.TestCase):
     def setUp(self) -> None:
         self.folder = Path(tempfile.mkdtemp(prefix="bootkeep test "))
         self.addCleanup(shutil.rmtree, self.folder)
-        for name in (package_files.ARCHIVE, package_files.SHARED, package_files.HEADER):
+        for name in BUILT:
             (self.folder / name).write_text(name)
-        (self.folder / "bootkeep.pc").write_text(
-            "prefix=${pcfiledir}\nlibdir=${pcfiledir}\nincludedir=${pcfiledir}\n\n"
-            "Name: bootkeep\nLibs: -L${libdir}\n"
-        )
+        for name in package_files.DESCRIPTIONS:
+            (self.folder / name).write_text(
+                "prefix=${pcfiledir}\nlibdir=${pcfiledir}\nincludedir=${pcfiledir}\n\n"
+                "Name: bootkeep\nLibs: -L${libdir}\n"
+            )
         self.made = package_files.Made({"bootvars": self.folder / "bootkeep.pc"}, self.folder)
 
     def test_pkg_config(self) -> None:
@@ -257,7 +269,24 @@ class Places(unittest.TestCase):
             files = package_files.development_files(self.made, place, examples).files
             names = {it.rpartition("/")[2].partition(".")[0] for it in files if "/man3/" in it}
             declared = {it.name for it in declarations.header_calls(declarations.read(HEADER))}
-            self.assertEqual(names, {"bootkeep", *declared})
+            self.assertEqual(names, {"bootkeep", "bootkeep-linux", *declared})
+
+    def test_pages_for_callers_are_beside_the_header(self) -> None:
+        for place, package in (
+            (package_files.DEBIAN, "libbootkeep-dev"),
+            (package_files.OTHERS, "bootkeep"),
+        ):
+            to = f"share/doc/{package}"
+            files = package_files.development_files(self.made, place, f"{to}/examples").files
+            names = {it.partition(f"{to}/")[2].partition(".gz")[0] for it in files}
+            self.assertLessEqual({"c.md", "firmware.md", "linux.md"}, names)
+            self.assertLessEqual({"examples/machine.c", "examples/tell.h"}, names)
+
+    def test_the_module_for_python_has_its_examples(self) -> None:
+        files = package_files.python_files({"bootkeep/a.py": b"a"}, "M", "1").files
+        self.assertEqual(files["lib/python3/dist-packages/bootkeep/a.py"].data, b"a")
+        example = (ROOT / "libraries/python/examples/machine.py").read_bytes()
+        self.assertEqual(files["share/doc/python3-bootkeep/examples/machine.py"].data, example)
 
     def test_each_page_of_a_format_is_there(self) -> None:
         names = {f"formats/{it.name}" for it in (ROOT / "docs" / "formats").glob("*.md")}
@@ -312,7 +341,7 @@ class Named(unittest.TestCase):
     def setUpClass(cls) -> None:
         folder = Path(tempfile.mkdtemp(prefix="bootkeep test "))
         cls.addClassCleanup(shutil.rmtree, folder)
-        for name in (package_files.ARCHIVE, package_files.SHARED, "bootkeep.pc"):
+        for name in (*BUILT, *package_files.DESCRIPTIONS):
             (folder / name).write_text("")
         shutil.copy(HEADER, folder)
         made = package_files.Made({}, folder)

@@ -25,6 +25,7 @@ WORDS_MAX = {
     "docs/firmware.md": 1250,
     "docs/fleet.md": 3600,
     "docs/library.md": 2900,
+    "docs/linux.md": 1400,
     "docs/machines.md": 5800,
     "docs/packages.md": 1000,
     "docs/requests.md": 3500,
@@ -83,9 +84,12 @@ class Pages(unittest.TestCase):
                 self.assertLessEqual(len(found[name].split()), most)
 
     def test_calls_that_are_named_are_declared(self) -> None:
-        header = (ROOT / "libraries/c/include/bootkeep.h").read_text(encoding="utf-8")
-        declared = set(CALL.findall(header))
-        for page in ("docs/c.md", "docs/firmware.md"):
+        headers = [
+            (ROOT / "libraries/c/include" / name).read_text(encoding="utf-8")
+            for name in ("bootkeep.h", "bootkeep-linux.h")
+        ]
+        declared = {it for header in headers for it in CALL.findall(header)}
+        for page in ("docs/c.md", "docs/firmware.md", "docs/linux.md"):
             called = CALL.findall((ROOT / page).read_text(encoding="utf-8"))
             self.assertTrue(called)
             self.assertLessEqual(set(called), declared, page)

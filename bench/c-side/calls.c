@@ -6,7 +6,7 @@
  * `keeper` is handed a set and then events: `d` and the digits of a frame, `p`, `h` or `r`, or the same in upper case
  * for the reply as a value. It tells of a closed keeper, of one that is refused no bytes in the place of its set, and
  * is opened, both in memory that was filled with marks, of each event, and of the set and the next number in the end.
- * `moves` is told of in machine.c.
+ * `moves` and `noted` are told of in machine.c.
  * An answer is `done` with what was given, `refused` with its four numbers, or `status` and its number.
  *
  * Each call is made with no room, with one too little, with each of its requests for memory refused in turn, with as
@@ -55,16 +55,21 @@ void *__wrap_realloc(void *block, size_t len)
     return refuse() ? NULL : __real_realloc(block, len);
 }
 
+/* How many words a call is handed at most. */
+enum { HANDED = 5 };
+
 /* What a call is handed, and what it tells. */
 struct call {
     const char *name;
-    struct bytes given[4];
+    struct bytes given[HANDED];
     struct {
         uint8_t *out[2];
         size_t cap[2], len[2];
         uint64_t extra;
     } told;
     struct bootkeep_option_parts parts;
+    struct bootkeep_record_parts record;
+    struct bootkeep_frame_parts frame;
     struct bootkeep_refusal refusal;
     struct bootkeep_reply reply;
     struct bootkeep_edited edited;
@@ -214,6 +219,48 @@ static uint32_t once_word(struct call *call)
     return bootkeep_outcome_word(number, OUT(0));
 }
 
+/* Makes a call on a journal or on notes. */
+static uint32_t once_notes(struct call *call)
+{
+    size_t taken = (size_t)call->told.extra;
+    uint32_t idle = (uint32_t)call->told.extra, status = UINT32_MAX;
+
+    if (is(call, "journal_is_idle"))
+        status = bootkeep_journal_is_idle(GIVEN(0), &idle, &call->refusal);
+    else if (is(call, "notes_len"))
+        status = bootkeep_notes_len(GIVEN(0), &taken, &call->refusal);
+    else if (is(call, "notes_make"))
+        status = bootkeep_notes_make(GIVEN(0), OUT(0), &call->refusal);
+    else if (is(call, "notes_identity"))
+        status = bootkeep_notes_identity(GIVEN(0), OUT(0), &call->refusal);
+    else
+        complain("no such call");
+    call->told.extra = is(call, "journal_is_idle") ? idle : taken;
+    return status;
+}
+
+/* Makes a call on a record. */
+static uint32_t once_record(struct call *call)
+{
+    uint32_t standing = (uint32_t)call->told.extra, status = UINT32_MAX;
+
+    if (is(call, "record_make"))
+        status = bootkeep_record_make(GIVEN(0), number_at(call, 1, 0, 4) | (uint64_t)number_at(call, 1, 4, 4) << 32,
+                                      GIVEN(2), GIVEN(3), GIVEN(4), OUT(0), &call->refusal);
+    else if (is(call, "record_parts"))
+        status = bootkeep_record_parts(GIVEN(0), &call->record, &call->refusal);
+    else if (is(call, "record_word"))
+        status = bootkeep_record_word(GIVEN(0), number_at(call, 1, 0, 4), OUT(0), &call->refusal);
+    else if (is(call, "record_standing"))
+        status = bootkeep_record_standing(GIVEN(0), GIVEN(1), &standing, &call->refusal);
+    else if (is(call, "record_back"))
+        status = bootkeep_record_back(GIVEN(0), GIVEN(1), OUT(0), &call->refusal);
+    else
+        complain("no such call");
+    call->told.extra = standing;
+    return status;
+}
+
 /* Makes any other call. */
 static uint32_t once_other(struct call *call)
 {
@@ -245,6 +292,8 @@ static uint32_t once_other(struct call *call)
         status = bootkeep_frame_make(
             number_at(call, 0, 0, 4), number_at(call, 0, 4, 4), (uint16_t)number_at(call, 0, 8, 2), GIVEN(1),
             (const uint16_t *)(const void *)call->given[2].at, call->given[2].len / 2, OUT(0), &call->refusal);
+    else if (is(call, "frame_parts"))
+        status = bootkeep_frame_parts(GIVEN(0), &call->frame, NUMBERS, &call->refusal);
     else if (is(call, "run"))
         status = bootkeep_run(GIVEN(0), GIVEN(1), OUT(0), OUT(1), &call->refusal);
     else
@@ -270,12 +319,16 @@ static uint32_t once(struct call *call)
 {
     if (!strncmp(call->name, "image_", 6) || is(call, "signature_lists"))
         return once_image(call);
-    if (ends_with(call, "_word"))
+    if (ends_with(call, "_word") && !is(call, "record_word"))
         return once_word(call);
     if (is(call, "vars_edit"))
         return once_edit(call);
-    if (!strncmp(call->name, "set_", 4))
+    if (!strncmp(call->name, "vars_", 5))
         return once_set(call);
+    if (!strncmp(call->name, "notes_", 6) || is(call, "journal_is_idle"))
+        return once_notes(call);
+    if (!strncmp(call->name, "record_", 7))
+        return once_record(call);
     return strncmp(call->name, "keeper_", 7) ? once_other(call) : once_keeper(call);
 }
 
@@ -296,6 +349,8 @@ static size_t unit(const struct call *call)
         return sizeof(struct bootkeep_named);
     if (is(call, "vars_changes"))
         return sizeof(struct bootkeep_change);
+    if (is(call, "frame_parts"))
+        return sizeof(uint16_t);
     return is(call, "vars_plan") || is(call, "vars_at_risk") || has_reply(call) ? sizeof(uint16_t) : 1;
 }
 
@@ -314,6 +369,10 @@ static void compare_rest(const struct call *call, uint32_t status, const struct 
         complain("the refusal is written");
     if (status != BOOTKEEP_DONE && memcmp(&before->parts, &call->parts, sizeof call->parts) != 0)
         complain("the parts are written");
+    if (status != BOOTKEEP_DONE && memcmp(&before->record, &call->record, sizeof call->record) != 0)
+        complain("the parts of a record are written");
+    if (status != BOOTKEEP_DONE && memcmp(&before->frame, &call->frame, sizeof call->frame) != 0)
+        complain("the parts of a frame are written");
     if (status != BOOTKEEP_DONE && memcmp(&before->reply, &call->reply, sizeof call->reply) != 0)
         complain("the reply is written");
     if (status != BOOTKEEP_DONE && memcmp(&before->edited, &call->edited, sizeof call->edited) != 0)
@@ -342,6 +401,10 @@ static uint32_t with_room(struct call *call, size_t first, size_t second)
 
     memset(&call->refusal, MARK, sizeof call->refusal);
     memset(&call->parts, MARK, sizeof call->parts);
+    memset(&call->record, MARK, sizeof call->record);
+    call->record.size = sizeof call->record;
+    memset(&call->frame, MARK, sizeof call->frame);
+    call->frame.size = sizeof call->frame;
     memset(&call->reply, MARK, sizeof call->reply);
     call->reply.size = sizeof call->reply;
     memset(&call->edited, MARK, sizeof call->edited);
@@ -456,12 +519,40 @@ static void say_reply(const struct bootkeep_reply *reply)
            reply->plan_next, reply->count);
 }
 
+/* Says the parts of a frame. */
+static void say_frame(const struct bootkeep_frame_parts *frame)
+{
+    if (frame->size != sizeof *frame || frame->reserved != 0)
+        complain("the size of a frame's parts is written, or what is reserved isn't 0");
+    printf(" %" PRIu32 " %" PRIu32 " %" PRIu32 " %zu %zu", frame->number, frame->kind, frame->entry, frame->option,
+           frame->option_len);
+}
+
 /* Says what came of an edit. */
 static void say_edited(const struct bootkeep_edited *edited)
 {
     if (edited->size != sizeof *edited)
         complain("the size of what came of an edit is written");
     printf(" %" PRIu32 " %" PRIu32, edited->kind, edited->entry);
+}
+
+/* Says the parts of a record. */
+static void say_record(const struct bootkeep_record_parts *record)
+{
+    if (record->size != sizeof *record)
+        complain("the size of the parts of a record is written");
+    printf(" %zu %zu %" PRIu64 " %zu %zu %zu %zu %zu", record->machine, record->machine_len, record->time,
+           record->before, record->before_len, record->after, record->after_len, record->words);
+}
+
+/* Asks for the parts of a record with too small a size of their struct, at which nothing is looked at. */
+static void try_record_size(void)
+{
+    struct bootkeep_record_parts record = {.size = sizeof record - 1};
+    struct bootkeep_refusal refusal;
+
+    if (bootkeep_record_parts(NULL, 0, &record, &refusal) != BOOTKEEP_BAD_SIZE)
+        complain("the parts of a record are told in too small a size");
 }
 
 /* Makes an edit with too small a size of one of its structs, of which nothing is looked at then. */
@@ -478,6 +569,17 @@ static void try_edit_sizes(void)
     edited.size = sizeof edited - 1;
     if (bootkeep_vars_edit(&edit, NULL, 0, NULL, 0, NULL, 0, NULL, 0, &len, &edited, &refusal) != BOOTKEEP_BAD_SIZE)
         complain("what came of an edit is told in too small a size");
+}
+
+/* Reads a frame into parts of too small a size, of which nothing is looked at then. */
+static void try_frame_size(void)
+{
+    struct bootkeep_frame_parts parts = {.size = sizeof parts - 1};
+    struct bootkeep_refusal refusal;
+    size_t len = 0;
+
+    if (bootkeep_frame_parts(NULL, 0, &parts, NULL, 0, &len, &refusal) != BOOTKEEP_BAD_SIZE)
+        complain("parts of a frame are told in too small a size");
 }
 
 /* Makes the calls that give structs with another size of one, at which nothing is looked at or written. */
@@ -516,8 +618,12 @@ static void say(struct call *call, uint32_t status)
             printf(" %" PRIu64, call->told.extra);
         if (has_reply(call))
             say_reply(&call->reply);
+        if (is(call, "frame_parts"))
+            say_frame(&call->frame);
         if (is(call, "vars_edit"))
             say_edited(&call->edited);
+        if (is(call, "record_parts"))
+            say_record(&call->record);
     } else
         printf("status %" PRIu32, status);
     putchar('\n');
@@ -632,14 +738,18 @@ static void take_line(char *line)
         command_machine(words, count);
         return;
     }
+    if (!strcmp(words[0], "noted")) {
+        note_commands(words);
+        return;
+    }
     call.name = words[0];
     if (is(&call, "vars_edit"))
         try_edit_sizes();
-    for (size_t at = 0; at < 4; at++)
+    for (size_t at = 0; at < HANDED; at++)
         call.given[at] = bytes_of(at + 1 < count ? words[at + 1] : "-");
     status = try_call(&call);
     say(&call, status);
-    for (size_t at = 0; at < 4; at++)
+    for (size_t at = 0; at < HANDED; at++)
         free(call.given[at].at);
 }
 
@@ -651,6 +761,8 @@ int main(void)
     if (bootkeep_version() != BOOTKEEP_VERSION)
         complain("the library has another version than the header");
     try_item_sizes();
+    try_record_size();
+    try_frame_size();
     while (getline(&line, &room, stdin) > 0)
         take_line(line);
     free(line);

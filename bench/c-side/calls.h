@@ -34,4 +34,7 @@ struct bootkeep_edit edit_of(struct bytes numbers);
 /* Makes the moves of a command over a machine in memory. */
 void command_machine(char **words, size_t count);
 
+/* Makes the moves of two commands of frames over a machine in memory, and says what is noted of each. */
+void note_commands(char **words);
+
 #endif

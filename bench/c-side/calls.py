@@ -141,6 +141,16 @@ def frame_make(numbers: bytes, option: bytes, order: bytes) -> str:
     return digits(bootkeep.frame_make(number, request, entry=entry))
 
 
+def frame_parts(data: bytes) -> str:
+    """The parts of a frame, and where its option is: at the end."""
+    parts = bootkeep.frame_parts(data)
+    option = b"" if parts.option is None else parts.option
+    assert bytes(bootkeep.Frame.from_bytes(data)) == data
+    at = len(data) - len(option) if option else 0
+    told = f"{parts.number} {int(parts.kind)} {entry_or_none(parts.entry)} {at} {len(option)}"
+    return f"{digits_of(parts.order or ())} {told}"
+
+
 def vars_list(data: bytes) -> str:
     """The places of the variables, as C has them. The module gives their data in place."""
     places, at = b"", 4
@@ -231,6 +241,50 @@ def signature_lists(data: bytes) -> str:
     return digits(places)
 
 
+def notes_identity(data: bytes) -> str:
+    identity = bootkeep.notes_identity(data)
+    if identity is None:
+        raise KeyError
+    return digits(identity)
+
+
+def record_make(machine: bytes, time: bytes, before: bytes, after: bytes, line: bytes) -> str:
+    """The record of a change. The module takes words, so that a line whose last word isn't ended is answered here."""
+    words = line.split(b"\0")
+    if words.pop():
+        place = len(line) - len(line.split(b"\0")[-1])
+        raise bootkeep.Refused(bootkeep.Fault.RECORD_OPEN_WORD, place)
+    seconds = int.from_bytes(time, "little")
+    return digits(bootkeep.record_make(machine, seconds, before, after, list(map(text_of, words))))
+
+
+def record_parts(data: bytes) -> str:
+    """The places of the parts of a record, as C has them. The module gives the parts."""
+    parts = bootkeep.record_parts(data)
+    first = 8 + len(parts.machine) + 16
+    second = first + len(parts.before) + 4
+    assert data[8:].startswith(parts.machine)
+    assert data[first:].startswith(parts.before) and data[second:].startswith(parts.after)
+    numbers = [
+        8,
+        len(parts.machine),
+        parts.time,
+        first,
+        len(parts.before),
+        second,
+        len(parts.after),
+    ]
+    return " ".join(map(str, [*numbers, len(parts.words)]))
+
+
+def record_word(data: bytes, number: bytes) -> str:
+    words = bootkeep.record_parts(data).words
+    at = int.from_bytes(number, "little")
+    if at >= len(words):
+        raise KeyError
+    return digits(words[at].encode())
+
+
 def run(data: bytes, stream: bytes) -> str:
     after, lines = bootkeep.run(data, stream)
     text = "".join(f"{line}\n" for line in lines)
@@ -254,6 +308,7 @@ CALLS: Dict[str, Callable[..., str]] = {
     "option_make": option_make,
     "option_make_units": option_make_units,
     "frame_make": frame_make,
+    "frame_parts": frame_parts,
     "vars_plan": vars_plan,
     "vars_list": vars_list,
     "vars_named": vars_named,
@@ -268,6 +323,15 @@ CALLS: Dict[str, Callable[..., str]] = {
     "image_check": image_check,
     "image_digest": lambda data: digits(bootkeep.image_digest(data)),
     "signature_lists": signature_lists,
+    "journal_is_idle": lambda data: str(int(bootkeep.journal_is_idle(data))),
+    "notes_len": lambda data: str(bootkeep.notes_len(data)),
+    "notes_make": lambda identity: digits(bootkeep.notes_make(identity)),
+    "notes_identity": notes_identity,
+    "record_make": record_make,
+    "record_parts": record_parts,
+    "record_word": record_word,
+    "record_standing": lambda data, now: str(int(bootkeep.record_standing(data, now))),
+    "record_back": lambda data, now: digits(bootkeep.record_back(data, now)),
     "run": run,
 }
 
@@ -354,6 +418,18 @@ class Machine:
                 if became != bootkeep.Became.DONE:
                     reason = 8
 
+    def note(self, notes: bytes, stream: bytes) -> bytes:
+        """Runs frames, says what is noted of them, and gives the notes after them."""
+        state = bootkeep.MachineState(b"machine", b"start", self.set, self.journal)
+        with bootkeep.Moves(state, stream) as moves:
+            while (move := moves.next()) is not None:
+                self.make(move)
+                moves.tell(bootkeep.Became.DONE)
+            after, places = moves.notes(notes), range(len(moves.end.replies))
+            same = "".join(f" {int(moves.same(notes, place))}" for place in places)
+        print(f"done {digits(after)}{same}")
+        return after
+
 
 def end_numbers(end: bootkeep.End) -> str:
     """How a command ended, and the kinds of its replies."""
@@ -381,6 +457,14 @@ def command_machine(words: List[str]) -> None:
     print(f"done {digits(machine.set)} {digits(machine.journal)}")
 
 
+def note_commands(words: List[str]) -> None:
+    """Runs two commands of frames over a machine, and says what is noted of each."""
+    variables, notes, *streams = map(data_of, words)
+    machine = Machine(variables)
+    for stream in streams:
+        notes = machine.note(notes, stream)
+
+
 def main() -> None:
     for line in sys.stdin:
         name, *words = line.split()
@@ -388,6 +472,8 @@ def main() -> None:
             keep(words)
         elif name == "moves":
             command_machine(words)
+        elif name == "noted":
+            note_commands(words)
         else:
             print(answer(lambda: CALLS[name](*map(data_of, words))))
 

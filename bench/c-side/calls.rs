@@ -2,11 +2,12 @@
 //! answer, as calls.c does by the header. What the crate's types leave no room for, as text that isn't UTF-8, a kind of
 //! request that there isn't and a keeper that is closed, is answered here.
 
-use bootkeep::frame::Request;
+use bootkeep::frame::{Frame, Request};
+use bootkeep::record::Standing;
 use bootkeep::vars::{Addition, BootVariable, ChangeKind, Edit, EditOutcome, EntryState, NewOrder, Plan, Position};
 use bootkeep::{
-    frame, image, option, path, vars, Became, End, EntryNumber, Error, Fault, Keeper, LoadOption, MachineState, Move,
-    Moves, Outcome, Refusal, Reply,
+    frame, image, notes, option, path, record, vars, Became, End, EntryNumber, Error, Fault, Keeper, LoadOption,
+    MachineState, Move, Moves, Outcome, Refusal, Reply, Same,
 };
 use std::io::{self, BufRead};
 
@@ -26,6 +27,8 @@ fn main() {
             keep(&words);
         } else if name == "moves" {
             command_machine(&words);
+        } else if name == "noted" {
+            note_commands(&words);
         } else {
             let given: Vec<Vec<u8>> = words.iter().map(|word| bytes_of(word)).collect();
             println!("{}", said(made(name, &given)));
@@ -113,6 +116,7 @@ fn made(name: &str, given: &[Vec<u8>]) -> Result<String, Error> {
             option::make(number(first), description, &given[2], &given[3]).map(|bytes| digits(&bytes))
         }
         "frame_make" => frame_make(first, &given[1], &given[2]),
+        "frame_parts" => frame_parts(first),
         "vars_edit" => vars_edit(first, &given[1], &given[2], &given[3]),
         "image_check" => match image::check(first)? {
             Some(fault) => Err(Error::Refused(fault.refusal)),
@@ -120,12 +124,61 @@ fn made(name: &str, given: &[Vec<u8>]) -> Result<String, Error> {
         },
         "image_digest" => image::digest(first).map(|digest| digits(&digest)),
         "signature_lists" => signature_lists(first),
+        "journal_is_idle" => bootkeep::journal_is_idle(first).map(|idle| u32::from(idle).to_string()),
+        "notes_len" => notes::len(first).map(|taken| taken.to_string()),
+        "notes_make" => match first.try_into() {
+            Ok(identity) => notes::make(identity).map(|bytes| digits(&bytes)),
+            Err(_) => refused(Fault::NotesBadIdentity, None),
+        },
+        "notes_identity" => digits_found(notes::identity(first)?),
+        "record_make" => record_make(first, &given[1], &given[2], &given[3], &given[4]),
+        "record_parts" => record_parts(first),
+        "record_word" => {
+            let word = record::parts(first)?.words.into_iter().nth(number(&given[1]) as usize);
+            digits_found(word.map(String::into_bytes))
+        }
+        "record_standing" => Ok(match record::standing(first, &given[1])? {
+            Standing::Unchanged => "0".to_owned(),
+            Standing::NotMade => "1".to_owned(),
+            Standing::Changed => "2".to_owned(),
+            other => panic!("{other:?}"),
+        }),
+        "record_back" => record::back(first, &given[1]).map(|set| digits(&set)),
         "run" => {
             let (after, lines) = bootkeep::run(first, &given[1])?;
             Ok(format!("{} {}", digits(&after), digits(lines.as_bytes())))
         }
         _ => made_of_set(name, first, &given[1..]),
     }
+}
+
+/// What was found, or that nothing was.
+fn digits_found(found: Option<Vec<u8>>) -> Result<String, Error> {
+    found.map(|bytes| digits(&bytes)).ok_or(Error::Absent)
+}
+
+/// The record of a change. The crate takes words, so that what is no line of words is answered here, after the name of the
+/// machine, which comes first.
+fn record_make(machine: &[u8], time: &[u8], before: &[u8], after: &[u8], line: &[u8]) -> Result<String, Error> {
+    let seconds = u64::from(number(&time[4..])) << 32 | u64::from(number(&time[..4]));
+    record::make(machine, seconds, vars::EMPTY, vars::EMPTY, &[])?;
+    let mut words: Vec<&[u8]> = line.split(|byte| *byte == 0).collect();
+    let open = words.pop().unwrap_or_default();
+    if !open.is_empty() {
+        return refused(Fault::RecordOpenWord, Some(line.len() - open.len()));
+    }
+    let texts: Vec<&str> = words.iter().map_while(|word| std::str::from_utf8(word).ok()).collect();
+    if texts.len() < words.len() {
+        return refused(Fault::RecordBadWord, Some(texts.len()));
+    }
+    record::make(machine, seconds, before, after, &texts).map(|bytes| digits(&bytes))
+}
+
+fn record_parts(bytes: &[u8]) -> Result<String, Error> {
+    let parts = record::parts(bytes)?;
+    let place = |part: &[u8]| format!("{} {}", start(bytes, part), part.len());
+    let (before, after) = (place(parts.before), place(parts.after));
+    Ok(format!("{} {} {before} {after} {}", place(parts.machine), parts.time, parts.words.len()))
 }
 
 fn made_of_set(name: &str, set: &[u8], given: &[Vec<u8>]) -> Result<String, Error> {
@@ -196,6 +249,26 @@ fn frame_make(numbers: &[u8], option: &[u8], order: &[u8]) -> Result<String, Err
         8 => make(Request::First(entry)),
         _ => refused(Fault::FrameBadKind, None),
     }
+}
+
+/// The parts of a frame, and where its option is: at the end.
+fn frame_parts(bytes: &[u8]) -> Result<String, Error> {
+    let frame = Frame::try_from(bytes)?;
+    assert_eq!(frame.as_ref(), bytes);
+    let (kind, entry, option, order) = match frame.request() {
+        Request::Add(entry, option) => (1, Some(entry), Some(option), &[][..]),
+        Request::Replace(entry, option) => (2, Some(entry), Some(option), &[][..]),
+        Request::Remove(entry) => (3, Some(entry), None, &[][..]),
+        Request::Order(order) => (4, None, None, order),
+        Request::Next(entry) => (5, Some(entry), None, &[][..]),
+        Request::AddFree(option) => (6, None, Some(option), &[][..]),
+        Request::AddFirst(option) => (7, None, Some(option), &[][..]),
+        Request::First(entry) => (8, Some(entry), None, &[][..]),
+    };
+    let len = option.map_or(0, |option| option.as_ref().len());
+    let at = option.map_or(0, |_| bytes.len() - len);
+    let (order, entry) = (digits_of(order.iter().copied()), entry_or_none(entry));
+    Ok(format!("{order} {} {kind} {entry} {at} {len}", frame.number()))
 }
 
 /// The set after an edit.
@@ -316,6 +389,43 @@ impl Machine {
         }
         Ok(format!("done {}", end_numbers(moves.end()?)))
     }
+}
+
+impl Machine {
+    /// Runs frames, says what is noted of them, and gives the notes after them.
+    fn note(&mut self, notes: &[u8], stream: &[u8]) -> Result<Vec<u8>, Error> {
+        let Machine { set: variables, journal } = Machine { set: self.set.clone(), journal: self.journal.clone() };
+        let state = MachineState { machine: b"machine", start: b"start", variables: &variables, journal: &journal };
+        let mut moves = Moves::requests(state, stream)?;
+        while let Some(asked) = moves.next_move()? {
+            self.make(asked)?;
+            moves.tell(Became::Done)?;
+        }
+        let after = moves.notes(notes)?;
+        let mut line = format!("done {}", digits(&after));
+        let replies = match moves.end()? {
+            End::Done { replies, .. } => replies,
+            other => panic!("{other:?}"),
+        };
+        for place in 0..replies.len() {
+            line += match moves.same(notes, place)? {
+                Same::Unknown => " 0",
+                Same::Yes => " 1",
+                Same::No => " 2",
+                other => panic!("{other:?}"),
+            };
+        }
+        println!("{line}");
+        Ok(after)
+    }
+}
+
+/// Runs two commands of frames over a machine, and says what is noted of each.
+fn note_commands(words: &[&str]) {
+    let given: Vec<Vec<u8>> = words.iter().map(|word| bytes_of(word)).collect();
+    let mut machine = Machine { set: given[0].clone(), journal: Vec::new() };
+    let between = machine.note(&given[1], &given[2]).expect("frames are run");
+    machine.note(&between, &given[3]).expect("frames are run");
 }
 
 /// How a command ended, and the kinds of its replies.

@@ -8,6 +8,7 @@ and the status is 1 if some do.
 from __future__ import annotations
 
 import argparse
+import hashlib
 import json
 import random
 import re
@@ -15,7 +16,7 @@ import struct
 import subprocess
 import sys
 import tempfile
-from dataclasses import dataclass
+from dataclasses import dataclass, replace
 from pathlib import Path
 from typing import Any, Iterable
 
@@ -74,6 +75,12 @@ POSITIONS = ["Last", "First", "NoOrder"]
 KEEP = "BootKeepState"
 OLD, NEW = bytes([0x17, 0, 0, 0]), bytes([7, 0, 0, 0])
 
+# How many bytes an identity has, of how many frames notes keep the digests, and how many bytes a digest has.
+IDENTITY_LEN, KEPT_MAX, DIGEST_LEN = 16, 64, 8
+
+# How a change stands beside the variables of a machine, by number.
+UNCHANGED, NOT_MADE, CHANGED = range(3)
+
 # The statuses in the order of their numbers.
 STATUSES = ["DONE", "REFUSED", "NO_ROOM", "ABSENT", "NO_MEMORY", "CLOSED", "BAD_SIZE"]
 
@@ -84,6 +91,67 @@ def camel(name: str) -> str:
 
 def snake(word: str) -> str:
     return re.sub(r"(?<!^)(?=[A-Z])", "_", word).upper()
+
+
+@dataclass(frozen=True)
+class Notes:
+    """Notes at the start of a journal's file: an identity, and the digests of frames, each with its number."""
+
+    identity: bytes
+    digests: tuple[tuple[int, bytes], ...] = ()
+
+    def data(self) -> bytes:
+        kept = b"".join(number.to_bytes(4, "little") + digest for number, digest in self.digests)
+        return b"BKJ3" + self.identity + bytes([len(self.digests)]) + kept
+
+    def kept_before(self, first: int) -> list[tuple[int, bytes]]:
+        """The digests that count before a run that begins with this next number."""
+        return [kept for kept in self.digests if kept[0] < first][-KEPT_MAX:]
+
+
+@dataclass(frozen=True)
+class Record:
+    """A record of a change."""
+
+    machine: bytes
+    time: int
+    before: dict[str, bytes]
+    after: dict[str, bytes]
+    words: tuple[bytes, ...]
+
+    def fields(self) -> list[bytes]:
+        sets = [set_of([*variables.items()]) for variables in (self.before, self.after)]
+        return [self.machine, self.time.to_bytes(8, "little"), *sets, *self.words]
+
+    def data(self) -> bytes:
+        return b"BKH1" + b"".join(
+            len(field).to_bytes(4, "little") + field for field in self.fields()
+        )
+
+    def beside(self, now: dict[str, bytes]) -> Record:
+        """The same with the Timeout that is there now, if it says nothing of one."""
+        timeout = {name: data for name, data in now.items() if name == "Timeout"}
+        if "Timeout" in self.before or "Timeout" in self.after:
+            return self
+        return replace(self, before={**self.before, **timeout}, after={**self.after, **timeout})
+
+    def standing(self, now: dict[str, bytes]) -> int:
+        """What the boot manager's variables are now, beside those before the change and after it. A start deletes
+        BootNext."""
+        stands, part = self.beside(now), boot_part(now)
+        used = [part == as_used(part, stands.after), part == as_used(part, stands.before)]
+        for held, standing in ((stands.after, UNCHANGED), (stands.before, NOT_MADE)):
+            if part == held:
+                return standing
+        return [*used, True].index(True)
+
+    def back(self, now: dict[str, bytes]) -> dict[str, bytes]:
+        """What undoing the change brings back."""
+        stands, name = self.beside(now), "BootNext"
+        left, found = stands.after.get(name), now.get(name)
+        if left is not None and found not in (left, stands.before.get(name)):
+            return without(stands.before, name)
+        return stands.before
 
 
 @dataclass(frozen=True)
@@ -283,6 +351,68 @@ def with_attributes(data: dict[str, bytes], there: dict[str, bytes]) -> dict[str
         for name, value in data.items()
         if name != KEEP
     }
+
+
+def without(variables: dict[str, bytes], name: str) -> dict[str, bytes]:
+    return {held: data for held, data in variables.items() if held != name}
+
+
+def boot_part(variables: dict[str, bytes]) -> dict[str, bytes]:
+    """The boot manager's variables of these."""
+    return {name: data for name, data in variables.items() if is_boot_name(name)}
+
+
+def as_used(now: dict[str, bytes], variables: dict[str, bytes]) -> dict[str, bytes]:
+    """The variables, without a BootNext if there is none now."""
+    return variables if "BootNext" in now else without(variables, "BootNext")
+
+
+def digest_of(frame: bytes) -> bytes:
+    """The digest of a frame that notes keep."""
+    return hashlib.sha256(frame).digest()[:DIGEST_LEN]
+
+
+def first_under(digests: Iterable[tuple[int, bytes]], number: int) -> bytes | None:
+    """The first digest under a number."""
+    return next((digest for kept, digest in digests if kept == number), None)
+
+
+def noted(
+    notes: Notes, first: int, frames: list[bytes], lines: list[str]
+) -> tuple[Notes, list[int]]:
+    """The notes after a run of frames that began with this next number, by the lines of the replies, and of each frame
+    whether it is the one that was applied under its number."""
+    before = notes.kept_before(first)
+    applied: list[tuple[int, bytes]] = []
+    waiting: dict[int, bytes] = {}
+    same = []
+    for frame, line in zip(frames, lines):
+        number, digest = int.from_bytes(frame[4:8], "little"), digest_of(frame)
+        known = first_under([*applied[-KEPT_MAX:], *before], number)
+        is_repeat = line.startswith("repeat") and known is not None
+        same.append((1 if known == digest else 2) if is_repeat else 0)
+        if line.startswith("waiting"):
+            waiting.setdefault(number, digest)
+        elif line.startswith("applied"):
+            after = int(line.split()[-1])
+            applied.append((number, digest))
+            applied += [(at, waiting[at]) for at in range(number, after) if at in waiting]
+            waiting = {at: held for at, held in waiting.items() if at >= after}
+    return replace(notes, digests=(*before, *applied[-KEPT_MAX:])), same
+
+
+def notes_fault(data: bytes) -> tuple[str, int] | None:
+    """The fault of bytes that begin as notes do, and its place."""
+    body = data[4:]
+    if len(body) <= IDENTITY_LEN:
+        return "NOTES_TRUNCATED", 4 if len(body) < IDENTITY_LEN else 4 + IDENTITY_LEN
+    count, kept = body[IDENTITY_LEN], body[IDENTITY_LEN + 1 :]
+    if count > 2 * KEPT_MAX:
+        return "NOTES_TOO_MANY", 4 + IDENTITY_LEN
+    size = 4 + DIGEST_LEN
+    if len(kept) < size * count:
+        return "NOTES_TRUNCATED", 4 + IDENTITY_LEN + 1 + size * (len(kept) // size)
+    return None
 
 
 def kept(data: dict[str, bytes]) -> dict[str, bytes]:
@@ -699,6 +829,41 @@ class Cases:
             return line, [self.refused("FRAME_BAD_NUMBER")]
         return line, [f"done {digits(frame_of(number, kind, payload))}"]
 
+    def frame_parts_case(self) -> tuple[str, list[str]]:
+        """The parts of a frame, which is damaged at times: what is wrong with it the reply of a run says."""
+        kind, entry = self.chance.choice(KINDS), self.chance.randrange(0x10000)
+        option = self.chance.choice(self.options)
+        order = self.chance.choices(range(0x10000), k=self.chance.choice([0, 1, 5, 600]))
+        number = self.chance.choice([0, 1, 2**32 - 2, 2**32 - 1])
+        frame = frame_of(number, kind, payload_of(kind, entry, option, number_bytes(order)))
+        if self.chance.randrange(3) == 0:
+            frame = damage(self.chance, frame)
+        line = f"frame_parts {digits(frame)}"
+        fault = self.frame_fault(frame)
+        if fault:
+            return line, [fault]
+        return line, [f"done {self.frame_parts(frame)}"]
+
+    def frame_parts(self, frame: bytes) -> str:
+        """The parts of a frame that is one, as the drivers say them."""
+        number, kind = int.from_bytes(frame[4:8], "little"), frame[3]
+        entry = NO_ENTRY if kind in (4, 6, 7) else int.from_bytes(frame[12:14], "little")
+        at = {1: 14, 2: 14, 6: 12, 7: 12}.get(kind, 0)
+        count = len(frame) - at if at else 0
+        return f"{digits(frame[12:] if kind == 4 else b'')} {number} {kind} {entry} {at} {count}"
+
+    def frame_fault(self, frame: bytes) -> str:
+        """The driver's line if the bytes aren't a frame, by the reply to their delivery."""
+        script = self.side.file("script", b"deliver " + frame.hex().encode() + b"\n")
+        held = self.side.file("set", self.set)
+        _, said, _ = self.side.ask("run", held, script, "--out", str(self.side.work / "after"))
+        words = said.split()
+        if words[:1] != ["malformed"]:
+            return ""
+        if words[1] == "Option":
+            return self.side.refusal("option", f"refused: {' '.join(words[2:])}")
+        return self.refused(f"FRAME_{snake(words[1])}")
+
     def name(self) -> bytes:
         """A name of the set, or one that it hasn't, or what is no name."""
         kept = [name.encode() for name, _ in variables_of(self.set)]
@@ -840,8 +1005,181 @@ class Cases:
             return self.refused("PUT_DATA_TOO_LONG" if value else "PUT_EMPTY_DATA")
         return f"done {digits(set_of([(held.decode(), data) for held, data in {**variables, name: value}.items()]))}"
 
-    def refused(self, kind: str) -> str:
-        return f"refused {self.side.kinds[kind]} 0 {NO_PLACE} {NO_PLACE}"
+    def refused(self, kind: str, place: int = NO_PLACE) -> str:
+        return f"refused {self.side.kinds[kind]} 0 {place} {NO_PLACE}"
+
+    def some_notes(self) -> Notes:
+        """Notes with some digests."""
+        count = self.chance.choice([0, 0, 1, 3, 2 * KEPT_MAX])
+        numbers = [self.chance.randrange(6) for _ in range(count)]
+        digests = tuple((number, self.chance.randbytes(DIGEST_LEN)) for number in numbers)
+        return Notes(self.chance.randbytes(IDENTITY_LEN), digests)
+
+    def notes_case(self) -> tuple[str, list[str]]:
+        """Notes at the start of a file, perhaps damaged, and notes of an identity."""
+        notes = self.some_notes()
+        data = notes.data() + self.chance.randbytes(self.chance.choice([0, 1, 40]))
+        if self.chance.randrange(2) == 0:
+            data = damage(self.chance, data)
+        identity = self.chance.randbytes(self.chance.choice([IDENTITY_LEN] * 4 + [0, 15, 17]))
+        lines = f"notes_len {digits(data)}\nnotes_identity {digits(data)}\nnotes_make {digits(identity)}"
+        made = f"done {digits(Notes(identity).data())}"
+        if len(identity) != IDENTITY_LEN:
+            made = self.refused("NOTES_BAD_IDENTITY")
+        if not data.startswith(b"BKJ3"):
+            return lines, ["done 0", f"status {ABSENT}", made]
+        fault = notes_fault(data)
+        if fault is not None:
+            return lines, [self.refused(*fault), self.refused(*fault), made]
+        taken = 21 + (4 + DIGEST_LEN) * data[20]
+        return lines, [f"done {taken}", f"done {digits(data[4:20])}", made]
+
+    def noted_case(self) -> tuple[str, list[str]]:
+        """Two commands of frames over a machine, and what is noted of each, at times without notes before them."""
+        streams = [self.stream(self.chance.choice([0, 3, 6, 90])) for _ in "12"]
+        notes = self.some_notes() if self.chance.randrange(4) else None
+        data = kept(dict(variables_of(self.set)))
+        words = [set_of([*data.items()]), b"" if notes is None else notes.data()]
+        line = f"noted {' '.join(map(digits, [*words, *map(b''.join, streams)]))}"
+        held, first, wanted = self.set, 0, []
+        for frames in streams:
+            held, lines = self.after_run(held, b"".join(frames))
+            after, same = noted(notes or Notes(b""), first, frames, lines)
+            numbers = [int(told.split()[-1]) for told in lines if told.startswith("applied")]
+            first = numbers[-1] if numbers else first
+            if notes is not None:
+                notes = after
+            told = same if notes is not None else [0] * len(same)
+            spelled = "-" if notes is None else digits(notes.data())
+            wanted.append(f"done {spelled}{''.join(f' {number}' for number in told)}")
+        return line, wanted
+
+    def after_run(self, data: bytes, stream: bytes) -> tuple[bytes, list[str]]:
+        """The set after a stream, and the lines of the replies."""
+        out = self.side.work / "after"
+        files = self.side.file("set", data), self.side.file("stream", stream)
+        status, lines, told = self.side.ask("run", "--stream", *files, "--out", str(out))
+        assert status == 0, told
+        return out.read_bytes(), lines.splitlines()
+
+    def idle_case(self) -> tuple[str, list[str]]:
+        """A journal of which nothing is left to do, or something, or none, or bytes that are no journal."""
+        journal = journal_of(self.chance.randbytes(self.chance.choice([0, 5])))
+        begun = journal + b"\1\5start" + bytes(4)
+        data, wanted = self.chance.choice(
+            [
+                (b"", "done 1"),
+                (journal, "done 1"),
+                (begun, "done 0"),
+                (journal + b"\2\5start", "done 0"),
+                (journal + b"\3", self.refused("JOURNAL_BAD_COURSE", len(journal))),
+                (begun[:-1], self.refused("JOURNAL_TRUNCATED", len(begun) - 4)),
+                (Notes(bytes(IDENTITY_LEN)).data(), self.refused("JOURNAL_BAD_MAGIC")),
+            ]
+        )
+        return f"journal_is_idle {digits(data)}", [wanted]
+
+    def some_boot_variables(self) -> dict[str, bytes]:
+        """Some of the variables of the examples, as a machine keeps them, and at times a Timeout and a BootNext."""
+        held = kept(dict(variables_of(self.set)))
+        some = {name: data for name, data in held.items() if self.chance.randrange(4)}
+        for name in ("Timeout", "BootNext"):
+            if self.chance.randrange(2):
+                some[name] = OLD + number_bytes([self.chance.randrange(2)])
+        return some
+
+    def some_record(self) -> tuple[Record, list[dict[str, bytes]]]:
+        """A record of a change, and the sets of which it is made."""
+        before = self.some_boot_variables()
+        after = self.chance.choice([self.some_boot_variables(), without(before, "BootOrder")])
+        if self.chance.randrange(2):
+            after["BootNext"] = OLD + number_bytes([self.chance.randrange(3)])
+        words = self.chance.sample([b"", b"bootvars", b"first", "ä".encode(), b"3" * 600], 3)
+        machine = self.chance.randbytes(self.chance.choice([1, 16, 4096]))
+        time = self.chance.choice([0, 1_790_000_000, 2**64 - 1])
+        made = Record(machine, time, boot_part(before), boot_part(after), tuple(words))
+        return made, [before, after]
+
+    def record_case(self) -> tuple[str, list[str]]:
+        """A record that is made, and what is read of it, or of one that is damaged."""
+        record, sets = self.some_record()
+        line = b"".join(word + b"\0" for word in record.words)
+        wrong = self.chance.choice(["", "", "", "machine", "open", "word", "before", "after"])
+        machine, words, wanted = record.machine, line, f"done {digits(record.data())}"
+        held = [set_of([*variables.items()]) for variables in sets]
+        if wrong == "machine":
+            machine, wanted = b"", self.refused("MACHINE_BAD_NAME")
+        elif wrong == "open":
+            words, wanted = line + b"\xff", self.refused("RECORD_OPEN_WORD", len(line))
+        elif wrong == "word":
+            words, wanted = line + b"\xff\0", self.refused("RECORD_BAD_WORD", 3)
+        elif wrong:
+            held[wrong == "after"] = b"BVS2"
+            wanted = self.refused("SET_BAD_MAGIC", 0)
+        given = [machine, record.time.to_bytes(8, "little"), *held, words]
+        number = self.chance.randrange(5)
+        data, told = self.damaged_record(record)
+        lines = [
+            f"record_make {' '.join(map(digits, given))}",
+            f"record_parts {digits(data)}",
+            f"record_word {digits(data)} {long_bytes([number]).hex()}",
+        ]
+        if told:
+            return "\n".join(lines), [wanted, told, told]
+        name, _, before, after, *kept_words = record.fields()
+        first = 8 + len(name) + 16
+        second = first + len(before) + 4
+        places = [8, len(name), record.time, first, len(before), second, len(after)]
+        word = f"status {ABSENT}"
+        if number < len(kept_words):
+            word = f"done {digits(kept_words[number])}"
+        parts = f"done {' '.join(map(str, [*places, len(kept_words)]))}"
+        return "\n".join(lines), [wanted, parts, word]
+
+    def damaged_record(self, record: Record) -> tuple[bytes, str]:
+        """The bytes of a record, perhaps damaged, and then why they aren't one."""
+        data, fields = record.data(), record.fields()
+        wrong = self.chance.choice(["", "", "magic", "cut", "few", "word", "before", "time"])
+        if wrong == "magic":
+            return b"BKH2" + data[4:], self.refused("RECORD_BAD_MAGIC")
+        if wrong == "cut":
+            field = self.chance.randrange(len(fields))
+            place = 4 + sum(4 + len(it) for it in fields[:field])
+            end = place + self.chance.randrange(1, 4 + max(1, len(fields[field])))
+            cut = data[: min(end, place + 3 + len(fields[field]))]
+            return cut, self.refused("RECORD_TRUNCATED", place)
+        if wrong == "few":
+            few = b"BKH1" + b"".join(len(it).to_bytes(4, "little") + it for it in fields[:3])
+            return few, self.refused("RECORD_TOO_FEW_FIELDS")
+        if wrong == "word":
+            return data + b"\1\0\0\0\xff", self.refused("RECORD_BAD_WORD", len(record.words))
+        if wrong == "before":
+            place = 4 + sum(4 + len(it) for it in fields[:2]) + 4
+            bad = data[:place] + b"BVS2" + data[place + 4 :]
+            kinds = self.side.kinds["RECORD_BAD_BEFORE"], self.side.kinds["SET_BAD_MAGIC"]
+            return bad, f"refused {kinds[0]} {kinds[1]} {NO_PLACE} 0"
+        if wrong == "time":
+            short = [fields[0], fields[1][:7], *fields[2:]]
+            bad = b"BKH1" + b"".join(len(it).to_bytes(4, "little") + it for it in short)
+            return bad, self.refused("RECORD_BAD_TIME")
+        return data, ""
+
+    def undo_case(self) -> tuple[str, list[str]]:
+        """How a change stands that was recorded, and what undoes it, beside what a machine has now."""
+        record, sets = self.some_record()
+        now = dict(self.chance.choice([*sets, *sets, self.some_boot_variables()]))
+        for name in ("BootNext", "Timeout"):
+            if self.chance.randrange(3) == 0:
+                now = without(now, name)
+        data, told = self.damaged_record(record)
+        held = set_of([*now.items()])
+        if self.chance.randrange(8) == 0:
+            held, told = b"BVS2", told or self.refused("SET_BAD_MAGIC", 0)
+        lines = f"record_standing {digits(data)} {digits(held)}\nrecord_back {digits(data)} {digits(held)}"
+        if told:
+            return lines, [told, told]
+        back = set_of([*record.back(now).items()])
+        return lines, [f"done {record.standing(now)}", f"done {digits(back)}"]
 
     def stream(self, count: int) -> list[bytes]:
         """Frames with other numbers, some of them damaged."""
@@ -969,11 +1307,17 @@ def main() -> int:
             cases.changes_case,
             cases.option_make_case,
             cases.frame_make_case,
+            cases.frame_parts_case,
             cases.names_case,
             cases.word_case,
             cases.named_case,
             cases.description_case,
             cases.parse_case,
+            cases.notes_case,
+            cases.noted_case,
+            cases.idle_case,
+            cases.record_case,
+            cases.undo_case,
         ]
         made = [maker() for _ in range(given.cases) for maker in makers]
     asked = "".join(f"{line}\n" for line, _ in made)

@@ -7,6 +7,10 @@
  * before it; moves for which there is none are made. Then what is left is settled. It tells how the command ended, or
  * that it was cut, and the variables and the journal in the end.
  *
+ * `noted` is handed a set of what the machine keeps, notes, and two streams of frames. The first is run, and then the
+ * second one, by whose notes those after the first are taken. It tells of each the notes after it, and whether each
+ * frame is the one that was applied under its number.
+ *
  * Each call is made with requests for memory refused in turn, with no room, and with structs of too small a size.
  */
 #include "calls.h"
@@ -265,6 +269,95 @@ static void settle(struct machine *machine)
         !make_moves(machine, &moves, (struct bytes){NULL, 0}) || end_of(&moves).kind != BOOTKEEP_END_DONE)
         complain("what is left isn't done");
     close_hard(&moves, true);
+}
+
+/* The notes after a command, which are asked for without room, and with requests for memory refused, first. */
+static struct bytes notes_after(struct bootkeep_moves *moves, struct bytes before)
+{
+    struct bytes after = {make(BOOTKEEP_NOTES_MAX), UINT32_MAX};
+    struct bootkeep_refusal refusal;
+    uint32_t status = bootkeep_moves_notes(moves, BYTES(before), NULL, 0, &after.len, &refusal);
+
+    if (status != (after.len > 0 ? BOOTKEEP_NO_ROOM : BOOTKEEP_DONE) || after.len > BOOTKEEP_NOTES_MAX)
+        complain("the length of notes isn't told");
+    for (unsigned long at = 1;; at = later(at)) {
+        refuse_at = at;
+        was_refused = false;
+        status = bootkeep_moves_notes(moves, BYTES(before), after.at, BOOTKEEP_NOTES_MAX, &after.len, &refusal);
+        refuse_at = 0;
+        if (!was_refused)
+            break;
+        if (status != BOOTKEEP_NO_MEMORY)
+            complain("a request for memory was refused, and notes are given");
+    }
+    if (status != BOOTKEEP_DONE)
+        complain("notes aren't given");
+    return after;
+}
+
+/* Says whether each frame is the one that was applied under its number, and that there are no more. */
+static void say_same(struct bootkeep_moves *moves, struct bytes before, size_t count)
+{
+    struct bootkeep_refusal refusal;
+    uint32_t same, status;
+
+    for (size_t at = 0; at < count; at++) {
+        refuse_at = 1;
+        was_refused = false;
+        status = bootkeep_moves_same(moves, BYTES(before), at, &same, &refusal);
+        refuse_at = 0;
+        if (status != (was_refused ? BOOTKEEP_NO_MEMORY : BOOTKEEP_DONE))
+            complain("a request for memory was refused, and a frame is compared");
+        if (bootkeep_moves_same(moves, BYTES(before), at, &same, &refusal) != BOOTKEEP_DONE)
+            complain("a frame isn't compared");
+        printf(" %" PRIu32, same);
+    }
+    if (bootkeep_moves_same(moves, BYTES(before), count, &same, &refusal) != BOOTKEEP_ABSENT)
+        complain("a frame is compared that there isn't");
+}
+
+/* Runs frames, says what is noted of them, and gives the notes after them. Before the command has ended, and once it is
+ * closed, there are none. */
+static struct bytes note(struct machine *machine, struct bytes before, struct bytes stream)
+{
+    const struct wanted wanted = {.kind = 'f', .parts = {stream, {NULL, 0}, {NULL, 0}}};
+    struct bootkeep_moves moves;
+    struct bootkeep_refusal refusal;
+    struct bytes after;
+    size_t len = 0;
+    uint32_t same;
+
+    if (begin_hard(&moves, machine, &wanted, &refusal) != BOOTKEEP_DONE ||
+        bootkeep_moves_notes(&moves, BYTES(before), NULL, 0, &len, &refusal) != BOOTKEEP_ABSENT ||
+        bootkeep_moves_same(&moves, BYTES(before), 0, &same, &refusal) != BOOTKEEP_ABSENT)
+        complain("notes are told of a command that hasn't ended");
+    make_moves(machine, &moves, (struct bytes){NULL, 0});
+    after = notes_after(&moves, before);
+    fputs("done", stdout);
+    print_bytes(BYTES(after));
+    say_same(&moves, before, end_of(&moves).replies);
+    putchar('\n');
+    close_hard(&moves, true);
+    if (bootkeep_moves_notes(&moves, BYTES(before), NULL, 0, &len, &refusal) != BOOTKEEP_CLOSED ||
+        bootkeep_moves_same(&moves, BYTES(before), 0, &same, &refusal) != BOOTKEEP_CLOSED)
+        complain("notes are told of a command that is closed");
+    return after;
+}
+
+void note_commands(char **words)
+{
+    struct machine machine = {bytes_of(words[1]), {NULL, 0}};
+    struct bytes before = bytes_of(words[2]), first = bytes_of(words[3]), second = bytes_of(words[4]), between, after;
+
+    between = note(&machine, before, first);
+    after = note(&machine, between, second);
+    free(machine.set.at);
+    free(machine.journal.at);
+    free(before.at);
+    free(first.at);
+    free(second.at);
+    free(between.at);
+    free(after.at);
 }
 
 void command_machine(char **words, size_t count)

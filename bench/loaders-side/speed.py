@@ -8,7 +8,7 @@ import time
 from typing import Dict, List
 
 from images import Headers, put
-from machine import Machine
+from loader_machine import Machine
 from ovmf_starts import Entry
 from samples import Lists
 

@@ -8,7 +8,7 @@ from enum import Enum
 from typing import Dict, List, Optional, Sequence
 
 from kinds import RSA
-from machine import Machine, Told, Verdict
+from loader_machine import Machine, Told, Verdict
 from ovmf_starts import (
     Disk,
     Entry,

@@ -4,6 +4,7 @@ from __future__ import annotations
 
 import argparse
 import fcntl
+import io
 import os
 import re
 import shutil
@@ -36,9 +37,6 @@ FAILED = 3
 NAME_OF_MACHINE = "its name"
 
 DELIVER = re.compile(rb"deliver ((?:[0-9a-fA-F]{2})*)")
-
-EMPTY_SET = b"BVS1"
-"""A set without variables, over which frames are tried."""
 
 
 class Problem(Exception):
@@ -520,11 +518,11 @@ def read_frames(path: Path) -> List[bytes]:
     """The frames of a script or a stream. Raises Problem for what is no request."""
     data = path.read_bytes()
     frames = _cut_stream(data, path) if data[:2] == b"BQ" else _cut_script(data, path)
-    with bootkeep.Keeper(EMPTY_SET) as keeper:
-        for at, frame in enumerate(frames):
-            reply = keeper.deliver(frame)
-            if reply.kind == bootkeep.ReplyKind.MALFORMED:
-                raise Problem(f"{path}: request {at + 1} of it is {reply}")
+    for at, frame in enumerate(frames):
+        try:
+            bootkeep.frame_parts(frame)
+        except bootkeep.Refused as refused:
+            raise Problem(f"{path}: request {at + 1} of it is no frame: {refused}") from refused
     if not frames:
         raise Problem(f"{path}: it has no request")
     return frames
@@ -542,13 +540,13 @@ def _cut_script(data: bytes, path: Path) -> List[bytes]:
 
 
 def _cut_stream(data: bytes, path: Path) -> List[bytes]:
-    frames, at = [], 0
-    while at < len(data):
-        end = at + 12 + int.from_bytes(data[at + 8 : at + 12], "little")
-        if data[at : at + 2] != b"BQ" or end > len(data):
-            raise Problem(f"{path}: offset {at}: there is no whole frame")
-        frames.append(data[at:end])
-        at = end
+    frames: List[bytes] = []
+    try:
+        for frame in bootkeep.frames(io.BytesIO(data)):
+            frames.append(frame)
+    except bootkeep.Refused as refused:
+        at = sum(map(len, frames))
+        raise Problem(f"{path}: offset {at}: there is no whole frame: {refused}") from refused
     return frames
 
 

@@ -215,11 +215,9 @@ def _frame(number: int, ask: Ask) -> bytes:
 
 
 def asked_by(frame: bytes, part: int) -> Asked:
-    """What a frame asks for, by its kind, and the entry that stands first in the payload of some kinds."""
-    payload = frame[messages.PAYLOAD_AT :]
-    is_named = frame[3] in messages.NAMES_ENTRY
-    entry = int.from_bytes(payload[:2], "little") if is_named else None
-    return Asked(frame[3], entry, part=part)
+    """What a frame asks for, by its kind, and the entry that it names."""
+    parts = bootkeep.frame_parts(frame)
+    return Asked(parts.kind, parts.entry, part=part)
 
 
 def describe(told: Dict[str, Any]) -> str:

@@ -12,10 +12,10 @@ from __future__ import annotations
 
 import hashlib
 import secrets
-import struct
 from dataclasses import dataclass, field
 from typing import NamedTuple, Optional, Sequence, Set, Tuple
 
+import bootkeep
 from bootkeep import Request
 
 from .answers import Answer, digest
@@ -26,12 +26,6 @@ FIRST = b"bootfleet 2"
 
 MOST_LINE = 1 << 17
 """How many bytes the line may have: Linux hands a program no longer word."""
-
-NUMBER_AT, PAYLOAD_AT = 4, 12
-"""Where the number is in a frame, and where its payload begins."""
-
-NAMES_ENTRY = (Request.ADD, Request.REPLACE, Request.REMOVE, Request.NEXT, Request.FIRST)
-"""The requests whose payload begins with the number of an entry."""
 
 CHANGES_ORDER = (
     Request.ADD,
@@ -82,7 +76,8 @@ def request(answer: Answer, requests: Sequence[Stored], is_order_expected: bool 
     frames = [it.frame for it in requests]
     words = [_journal(answer), f"next={answer.next}"]
     words += [_entry(answer, number) for number in sorted(entries_of(frames))]
-    if is_order_expected or any(frame[3] in CHANGES_ORDER for frame in frames):
+    kinds = (bootkeep.frame_parts(frame).kind for frame in frames)
+    if is_order_expected or any(kind in CHANGES_ORDER for kind in kinds):
         words.append(_order(answer))
     return Message(tuple(words), tuple(requests))
 
@@ -106,17 +101,16 @@ def entries_of(frames: Sequence[bytes]) -> Set[int]:
     """The entries that frames name."""
     named: Set[int] = set()
     for frame in frames:
-        payload = frame[PAYLOAD_AT:]
-        if frame[3] in NAMES_ENTRY:
-            named.add(int.from_bytes(payload[:2], "little"))
-        elif frame[3] == Request.ORDER:
-            named.update(number for (number,) in struct.iter_unpack("<H", payload))
+        parts = bootkeep.frame_parts(frame)
+        named.update(parts.order or ())
+        if parts.entry is not None:
+            named.add(parts.entry)
     return named
 
 
 def renumbered(frame: bytes, number: int) -> bytes:
     """A frame with another number."""
-    return frame[:NUMBER_AT] + struct.pack("<I", number) + frame[NUMBER_AT + 4 :]
+    return bootkeep.Frame.from_bytes(frame).request.frame(number)
 
 
 def _journal(answer: Answer) -> str:

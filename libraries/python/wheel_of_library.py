@@ -1,7 +1,8 @@
-"""Builds the wheel of the package `bootkeep`, which holds the shared library: what `pip wheel` calls.
+"""Builds the wheel of the package `bootkeep`, which holds both shared libraries: what `pip wheel` calls.
 
-The library is the one that the environment's BOOTKEEP_LIBRARY names, as `tools/build-c FOLDER` makes it. Nothing is
-downloaded. An archive of the sources has no library: to make a wheel of it takes BOOTKEEP_LIBRARY, too."""
+The first library is the one that the environment's BOOTKEEP_LIBRARY names, as `tools/build-c FOLDER` makes it, and that
+over machines is beside it. Nothing is downloaded. An archive of the sources has no library: to make a wheel of it takes
+BOOTKEEP_LIBRARY, too."""
 
 from __future__ import annotations
 
@@ -21,8 +22,12 @@ HERE = Path(__file__).resolve().parent
 PROJECT = HERE / "pyproject.toml"
 NAME = "bootkeep"
 
-# The library needs the functions of glibc 2.34 at most, and a processor of x86-64, level x86-64-v2.
+# The libraries need the functions of glibc 2.34 at most, and a processor of x86-64, level x86-64-v2.
 TAG = "py3-none-manylinux_2_34_x86_64"
+GLIBC_MAX = 34
+
+LIBRARY, OVER_MACHINES = "libbootkeep.so.1", "libbootkeep-linux.so.1"
+"""What the libraries are called in the wheel."""
 
 # A moment that each file of the wheel has, so that equal files make equal wheels.
 MOMENT = (2026, 1, 1, 0, 0, 0)
@@ -53,16 +58,30 @@ def metadata() -> str:
     return "".join(f"{field}: {text}\n" for field, text in said)
 
 
-def library() -> bytes:
-    """The library that the wheel holds."""
+def libraries() -> Dict[str, bytes]:
+    """The libraries that the wheel holds, by their names in it."""
     named = Path(os.environ.get("BOOTKEEP_LIBRARY", ""))
+    beside = named.with_name(OVER_MACHINES) if named.name else named
     # What builds wheels calls this in another folder than that in which it was called.
-    if not named.is_absolute() or not named.is_file():
+    if not named.is_absolute() or not named.is_file() or not beside.is_file():
         raise SystemExit(
-            "BOOTKEEP_LIBRARY has to be the whole path of libbootkeep.so.1, which tools/build-c FOLDER makes: "
-            f"it is {str(named)!r}"
+            f"BOOTKEEP_LIBRARY has to be the whole path of {LIBRARY}, which tools/build-c FOLDER makes with "
+            f"{OVER_MACHINES} beside it: it is {str(named)!r}"
         )
-    return named.read_bytes()
+    held = {LIBRARY: named.read_bytes(), OVER_MACHINES: beside.read_bytes()}
+    for name, data in held.items():
+        check_library(name, data)
+    return held
+
+
+def check_library(name: str, data: bytes) -> None:
+    """Ends unless these bytes are a library for x86-64 that needs no later glibc than the wheel says."""
+    # ELF of 64 bits, little-endian, and at 18 the number of the processor.
+    if data[:6] != b"\x7fELF\2\1" or data[18:20] != b"\x3e\0":
+        raise SystemExit(f"{name} is no shared library for x86-64")
+    needed = [int(version) for version in re.findall(rb"GLIBC_2\.(\d+)", data)]
+    if max(needed, default=0) > GLIBC_MAX:
+        raise SystemExit(f"{name} needs glibc 2.{max(needed)}, and the wheel is for 2.{GLIBC_MAX}")
 
 
 def modules() -> Dict[str, bytes]:
@@ -79,7 +98,7 @@ def files() -> Dict[str, bytes]:
     info = f"{NAME}-{project('version')}.dist-info"
     return {
         **modules(),
-        f"{NAME}/libbootkeep.so.1": library(),
+        **{f"{NAME}/{name}": data for name, data in libraries().items()},
         f"{info}/METADATA": metadata().encode(),
         f"{info}/WHEEL": f"Wheel-Version: 1.0\nGenerator: {NAME}\nRoot-Is-Purelib: false\nTag: {TAG}\n".encode(),
     }

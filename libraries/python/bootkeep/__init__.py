@@ -1,7 +1,8 @@
-"""Device paths, load options, sets of boot variables, numbered requests over them, and files that firmware starts.
+"""Device paths, load options, sets of boot variables, numbered requests over them, files that firmware starts, and the boot
+entries of a Linux machine.
 
 Values are read of bytes, which ``bytes`` gives again, and are never changed: :class:`DevicePath`, :class:`LoadOption`,
-:class:`BootVariables`::
+:class:`BootVariables`, :class:`Frame`::
 
     >>> import bootkeep
     >>> data = bytes.fromhex("02010c00d041030a000000007fff0400")
@@ -26,6 +27,12 @@ Requests change a set by a keeper, and :class:`SetFile` keeps a file by them::
     applied Done 0000 1
     plan next - normal 0000 0005
 
+A Linux machine's entries are changed where they are by a :class:`Machine`, whole or not at all, also over a loss of power,
+and back again by ``undo``::
+
+    with bootkeep.Machine() as machine:
+        machine.add(loader="/boot/efi/EFI/rescue/grubx64.efi", description="Rescue", first=True)
+
 What isn't what it has to be is refused by :class:`Refused`, with the fault and its place. Python's own ``MemoryError`` is
 raised where memory is refused, and ``KeyError`` where a set has no variable of a name::
 
@@ -39,7 +46,8 @@ keeper have their names here too, without ``bootkeep_``, take bytes, and return 
 has the description too, as a text and as a line, and :func:`library_version` is ``bootkeep_version``.
 
 The shared library is found by the environment's ``BOOTKEEP_LIBRARY``, beside this file, or where the system looks for
-``libbootkeep.so.1``; ``tools/build-c FOLDER`` makes it, and a wheel of this package has it.
+``libbootkeep.so.1``; ``tools/build-c FOLDER`` makes it, and a wheel of this package has it. The one over machines,
+``libbootkeep-linux.so.1``, is found beside it, or by ``BOOTKEEP_LINUX_LIBRARY``; only a :class:`Machine` needs it.
 """
 
 from __future__ import annotations
@@ -64,6 +72,28 @@ from ._images import (
 )
 from ._keepers import Keeper, Reply, run
 from ._library import library_version
+from ._machine_faults import (
+    ChangedSince,
+    MachineBusy,
+    MachineError,
+    MachineFailure,
+    MachineRefused,
+    NothingToUndo,
+    SystemRefused,
+    TakenBack,
+    Unmet,
+    Unsettled,
+)
+from ._machine_numbers import Left, MachineFault, MachineStage
+from ._machines import (
+    Expected,
+    Machine,
+    MachineChange,
+    MachineEntry,
+    MachineJournal,
+    MachinePlan,
+    MachineReply,
+)
 from ._moves import End, MachineState, Move, Moves, Restore
 from ._numbers import (
     ATTRIBUTE_ACTIVE,
@@ -83,21 +113,26 @@ from ._numbers import (
     EntryState,
     FRAME_MAX,
     Fault,
+    IDENTITY_LEN,
     LIST_MAX,
     MACHINE_MAX,
     MoveKind,
     NAME_MAX,
+    NOTES_MAX,
     ORDER_MAX,
     Outcome,
     Position,
     ReplyKind,
     RequestKind,
+    Same,
     Stage,
+    Standing,
     VERSION,
     WORD_MAX,
 )
 from ._numbers import Fault as Kind
 from ._numbers import RequestKind as Request
+from ._notes import journal_is_idle, notes_identity, notes_len, notes_make
 from ._options import (
     LoadOption,
     OptionParts,
@@ -116,17 +151,27 @@ from ._paths import (
     path_text,
     path_text_and_len,
 )
+from ._records import (
+    RecordParts,
+    record_back,
+    record_make,
+    record_parts,
+    record_standing,
+)
 from ._requests import (
     Add,
     AddFirst,
     AddFree,
     BootRequest,
     First,
+    Frame,
+    FrameParts,
     Next,
     Order,
     Remove,
     Replace,
     frame_make,
+    frame_parts,
     frames,
 )
 from ._sets import (
@@ -168,6 +213,7 @@ __all__ = [
     "BytesLeft",
     "Change",
     "ChangeKind",
+    "ChangedSince",
     "Closed",
     "DATA_MAX",
     "DevicePath",
@@ -182,29 +228,49 @@ __all__ = [
     "EntryNumber",
     "EntryState",
     "Error",
+    "Expected",
     "FRAME_MAX",
     "Fault",
     "First",
+    "Frame",
+    "FrameParts",
+    "IDENTITY_LEN",
     "ImageFault",
     "Keeper",
     "Kind",
     "LIST_MAX",
+    "Left",
     "LoadOption",
     "MACHINE_MAX",
+    "Machine",
+    "MachineBusy",
+    "MachineChange",
+    "MachineEntry",
+    "MachineError",
+    "MachineFailure",
+    "MachineFault",
+    "MachineJournal",
+    "MachinePlan",
+    "MachineRefused",
+    "MachineReply",
+    "MachineStage",
     "MachineState",
     "Move",
     "MoveKind",
     "Moves",
     "NAME_MAX",
+    "NOTES_MAX",
     "NamedEntry",
     "Next",
     "Node",
+    "NothingToUndo",
     "ORDER_MAX",
     "OptionParts",
     "Order",
     "Outcome",
     "Plan",
     "Position",
+    "RecordParts",
     "Refused",
     "Remove",
     "Replace",
@@ -213,9 +279,15 @@ __all__ = [
     "Request",
     "RequestKind",
     "Restore",
+    "Same",
     "SetFile",
     "SignatureList",
     "Stage",
+    "Standing",
+    "SystemRefused",
+    "TakenBack",
+    "Unmet",
+    "Unsettled",
     "VERSION",
     "WORD_MAX",
     "WithEntry",
@@ -223,11 +295,16 @@ __all__ = [
     "check_path",
     "entries_at_risk",
     "frame_make",
+    "frame_parts",
     "frames",
     "image_check",
     "image_digest",
     "is_entry_name",
+    "journal_is_idle",
     "library_version",
+    "notes_identity",
+    "notes_len",
+    "notes_make",
     "option",
     "option_make",
     "option_make_units",
@@ -241,6 +318,10 @@ __all__ = [
     "path_text",
     "path_text_and_len",
     "plan",
+    "record_back",
+    "record_make",
+    "record_parts",
+    "record_standing",
     "refusal_word",
     "run",
     "signature_lists",

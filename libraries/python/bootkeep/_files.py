@@ -12,7 +12,7 @@ from typing import Iterator, Optional, Type, Union
 
 from ._buffers import Bytes
 from ._keepers import Keeper, Reply
-from ._requests import BootRequest
+from ._requests import BootRequest, Frame
 from ._sets import BootVariables
 
 
@@ -141,7 +141,7 @@ class SetFile:
         """The variables that are stored."""
         return BootVariables.from_bytes(self._stored)
 
-    def deliver(self, frame: Bytes) -> Reply:
+    def deliver(self, frame: Union[Frame, Bytes]) -> Reply:
         """These bytes are delivered, which may be a frame, and what comes of them is stored."""
         return self._store(self.keeper.deliver(frame))
 

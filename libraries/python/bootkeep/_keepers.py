@@ -13,7 +13,7 @@ from ._faults import Refused, failure, fault_word, outcome_word, refused
 from ._library import RawKeeper, RawRefusal, RawReply, library
 from ._numbers import DONE, NO_KIND, NO_NUMBER, NO_ROOM, Fault, Outcome, ReplyKind
 from ._owned import Owned
-from ._requests import BootRequest
+from ._requests import BootRequest, Frame
 from ._sets import BootVariables, Plan, entry_numbers, entry_or_none
 from ._values import EntryNumber
 
@@ -138,7 +138,7 @@ class Keeper(Owned):
         if status != DONE:
             raise failure(status, refusal)
 
-    def deliver(self, frame: Bytes) -> Reply:
+    def deliver(self, frame: Union[Frame, Bytes]) -> Reply:
         """These bytes are delivered, which may be a frame."""
         return self._event(library.bootkeep_keeper_deliver_reply, *bytes_in(frame))
 

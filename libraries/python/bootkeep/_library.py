@@ -4,7 +4,7 @@ from __future__ import annotations
 
 import ctypes
 import os
-from ctypes import POINTER, c_char_p, c_size_t, c_uint16, c_uint32, c_void_p
+from ctypes import POINTER, c_char_p, c_size_t, c_uint16, c_uint32, c_uint64, c_void_p
 from pathlib import Path
 from typing import Any, Dict, Tuple
 
@@ -30,6 +30,18 @@ class RawParts(ctypes.Structure):
         ("list_len", c_size_t),
         ("optional", c_size_t),
         ("optional_len", c_size_t),
+    ]
+
+
+class RawFrame(ctypes.Structure):
+    _fields_ = [
+        ("size", c_size_t),
+        ("number", c_uint32),
+        ("kind", c_uint32),
+        ("entry", c_uint32),
+        ("reserved", c_uint32),
+        ("option", c_size_t),
+        ("option_len", c_size_t),
     ]
 
 
@@ -110,6 +122,20 @@ class RawEnd(ctypes.Structure):
     ]
 
 
+class RawRecordParts(ctypes.Structure):
+    _fields_ = [
+        ("size", c_size_t),
+        ("machine", c_size_t),
+        ("machine_len", c_size_t),
+        ("time", c_uint64),
+        ("before", c_size_t),
+        ("before_len", c_size_t),
+        ("after", c_size_t),
+        ("after_len", c_size_t),
+        ("words", c_size_t),
+    ]
+
+
 _IN = (c_char_p, c_size_t)
 _OUT = (c_char_p, c_size_t, POINTER(c_size_t))
 _NUMBERS = (POINTER(c_uint16), c_size_t, POINTER(c_size_t))
@@ -153,6 +179,7 @@ _CALLS: Dict[str, Tuple[Any, ...]] = {
         *_OUT,
         _WHY,
     ),
+    "bootkeep_frame_parts": (*_IN, POINTER(RawFrame), *_NUMBERS, _WHY),
     "bootkeep_vars_plan": (*_IN, *_NUMBERS, POINTER(c_uint32), _WHY),
     "bootkeep_vars_at_risk": (*_IN, *_NUMBERS, POINTER(c_size_t), _WHY),
     "bootkeep_vars_get": (*_IN, *_IN, *_OUT, _WHY),
@@ -188,6 +215,17 @@ _CALLS: Dict[str, Tuple[Any, ...]] = {
     "bootkeep_moves_end": (_MOVES, POINTER(RawEnd)),
     "bootkeep_moves_reply": (_MOVES, c_size_t, _REPLY),
     "bootkeep_moves_close": (_MOVES,),
+    "bootkeep_journal_is_idle": (*_IN, POINTER(c_uint32), _WHY),
+    "bootkeep_notes_len": (*_IN, POINTER(c_size_t), _WHY),
+    "bootkeep_notes_make": (*_IN, *_OUT, _WHY),
+    "bootkeep_notes_identity": (*_IN, *_OUT, _WHY),
+    "bootkeep_moves_notes": (_MOVES, *_IN, *_OUT, _WHY),
+    "bootkeep_moves_same": (_MOVES, *_IN, c_size_t, POINTER(c_uint32), _WHY),
+    "bootkeep_record_make": (*_IN, c_uint64, *_IN, *_IN, *_IN, *_OUT, _WHY),
+    "bootkeep_record_parts": (*_IN, POINTER(RawRecordParts), _WHY),
+    "bootkeep_record_word": (*_IN, c_size_t, *_OUT, _WHY),
+    "bootkeep_record_standing": (*_IN, *_IN, POINTER(c_uint32), _WHY),
+    "bootkeep_record_back": (*_IN, *_IN, *_OUT, _WHY),
     "bootkeep_image_check": (*_IN, POINTER(c_uint32), POINTER(c_uint32), _WHY),
     "bootkeep_image_digest": (*_IN, *_OUT, _WHY),
     "bootkeep_signature_lists": (*_IN, POINTER(RawList), *_ROOM, _WHY),

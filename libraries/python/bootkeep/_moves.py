@@ -12,7 +12,17 @@ from ._edits import Edit, entry_of
 from ._faults import failure, number_in
 from ._keepers import Reply, reply_of
 from ._library import RawEnd, RawMoves, RawRefusal, RawReply, library
-from ._numbers import DONE, NO_KIND, Became, EditedKind, EndKind, Fault, MoveKind
+from ._numbers import (
+    DONE,
+    NO_KIND,
+    NOTES_MAX,
+    Became,
+    EditedKind,
+    EndKind,
+    Fault,
+    MoveKind,
+    Same,
+)
 from ._owned import Owned
 from ._values import EntryNumber
 
@@ -144,6 +154,32 @@ class Moves(Owned):
             None if told.fault == NO_KIND else Fault(told.fault),
             EditedKind(told.edited),
             entry_of(told.entry),
+        )
+
+    def notes(self, before: Bytes) -> bytes:
+        """The notes after a command of frames that has happened, from those before it, or the journal's file that begins
+        with them: no bytes if there were none. ``Refused`` has a kind ``NOTES_..``."""
+        refusal, given = RawRefusal(), bytes_in(before)
+        return bytes_of(
+            lambda *out: library.bootkeep_moves_notes(
+                byref(self._handle), *given, *out, byref(refusal)
+            ),
+            NOTES_MAX,
+            refusal,
+        )
+
+    def same(self, before: Bytes, place: int) -> Same:
+        """Whether the frame at this place of the stream, which was a repeat, is the one that was applied under its number, by
+        the notes before the command, or the journal's file that begins with them. ``Refused`` has a kind ``NOTES_..``.
+        """
+        refusal, given = RawRefusal(), (*bytes_in(before), number_in(place, 64))
+        return Same(
+            number_of(
+                lambda out: library.bootkeep_moves_same(
+                    byref(self._handle), *given, out, byref(refusal)
+                ),
+                refusal,
+            )
         )
 
     def close(self) -> None:

@@ -33,6 +33,10 @@ WORD_MAX = 32
 #: The most bytes of the name of a machine.
 MACHINE_MAX = 4096
 
+#: How many bytes the identity in notes has, and how many notes have at most.
+IDENTITY_LEN = 16
+NOTES_MAX = 1557
+
 #: Bits of the attributes of a load option (UEFI 2.10, 3.1.3), and the values of those of ATTRIBUTE_CATEGORY.
 ATTRIBUTE_ACTIVE = 0x00000001
 ATTRIBUTE_FORCE_RECONNECT = 0x00000002
@@ -339,6 +343,32 @@ class Fault(Numbers):
     UNEDITED_BAD_NUMBER = 0x0E0A
     #: The position is none.
     UNEDITED_BAD_POSITION = 0x0E0B
+    #: The notes at the start of a journal's file end in the field at this place.
+    NOTES_TRUNCATED = 0x0F01
+    #: The notes are to have more than 128 digests: the place is that of their count.
+    NOTES_TOO_MANY = 0x0F02
+    #: The identity of notes hasn't 16 bytes.
+    NOTES_BAD_IDENTITY = 0x0F03
+    #: The record of a change doesn't begin with the four bytes `BKH1`.
+    RECORD_BAD_MAGIC = 0x1001
+    #: The record ends in the field that begins at this place.
+    RECORD_TRUNCATED = 0x1002
+    #: The record has fewer than the four fields before the words.
+    RECORD_TOO_FEW_FIELDS = 0x1003
+    #: The record's name of the machine has no byte, or more than 4,096.
+    RECORD_BAD_MACHINE = 0x1004
+    #: The record's time doesn't have eight bytes.
+    RECORD_BAD_TIME = 0x1005
+    #: What was before the change is no set: the fault within is the set's.
+    RECORD_BAD_BEFORE = 0x1006
+    #: What was after the change is no set: the fault within is the set's.
+    RECORD_BAD_AFTER = 0x1007
+    #: The word of this number, of which the first is 0, isn't UTF-8.
+    RECORD_BAD_WORD = 0x1008
+    #: No zero ends the last word, which begins at this place of the words.
+    RECORD_OPEN_WORD = 0x1009
+    #: A word, or a set of the boot manager's variables, has 2^32 bytes or more.
+    RECORD_TOO_LONG = 0x100A
 
 
 class EditKind(IntEnum):
@@ -542,3 +572,25 @@ class EndKind(Numbers):
     UNSETTLED = 6
     #: Memory was refused. Nothing was changed.
     NO_MEMORY = 7
+
+
+class Same(Numbers):
+    """Whether a frame that came again is the one that was applied under its number."""
+
+    #: It is no repeat of one that was applied, or no digest of that one is kept.
+    UNKNOWN = 0
+    #: It is that one.
+    YES = 1
+    #: Another frame was applied under its number.
+    NO = 2
+
+
+class Standing(Numbers):
+    """What the boot manager's variables of a machine are now, beside the record of a change of it."""
+
+    #: Those after the change, but perhaps for a BootNext that a start has used.
+    UNCHANGED = 0
+    #: Those before the change, but perhaps for such a BootNext, and not those after it.
+    NOT_MADE = 1
+    #: Neither: something else has changed them since.
+    CHANGED = 2

@@ -2,16 +2,17 @@
 
 from __future__ import annotations
 
-from ctypes import byref, c_uint16
+from ctypes import byref, c_uint16, sizeof
 from dataclasses import dataclass
-from typing import BinaryIO, ClassVar, Dict, Iterator, Optional, Sequence, Tuple, Union
+from typing import Any, BinaryIO, ClassVar, Dict, Iterator, Optional, Sequence, Tuple, Type, Union
 
-from ._buffers import Bytes, bytes_in, bytes_of
+from ._buffers import Bytes, bytes_in, bytes_of, numbers_of
 from ._faults import Refused, number_in
-from ._library import RawRefusal, library
+from ._library import RawFrame, RawRefusal, library
 from ._numbers import FRAME_MAX, Fault, RequestKind
 from ._options import LoadOption
-from ._values import EntryNumber
+from ._sets import entry_numbers, entry_or_none
+from ._values import EntryNumber, Value
 
 #: Which parts a request of each kind has.
 _PARTS: Dict[RequestKind, Tuple[str, ...]] = {
@@ -79,6 +80,43 @@ def frame_make(
     )
     return bytes_of(
         lambda *out: library.bootkeep_frame_make(*given, *out, byref(refusal)), refusal=refusal
+    )
+
+
+@dataclass(frozen=True)
+class FrameParts:
+    """The parts of a frame, as :func:`frame_parts` reads it. A request has those that :func:`frame_make` takes for its
+    kind, and the others are ``None``."""
+
+    #: The number of the request.
+    number: int
+    #: What it is to do.
+    kind: RequestKind
+    #: The number of the entry.
+    entry: Optional[EntryNumber]
+    #: The bytes of the load option.
+    option: Optional[bytes]
+    #: The numbers of the order.
+    order: Optional[Tuple[EntryNumber, ...]]
+
+
+def frame_parts(data: Bytes) -> FrameParts:
+    """The parts of the frame that the bytes are, all of them. ``Refused`` has a kind ``FRAME_..``, or ``OPTION_..`` of a
+    load option that isn't one, with places in the option."""
+    parts, refusal, given = RawFrame(size=sizeof(RawFrame)), RawRefusal(), bytes_in(data)
+    numbers = numbers_of(
+        lambda *out: library.bootkeep_frame_parts(*given, byref(parts), *out, byref(refusal)),
+        refusal,
+    )
+    if parts.kind not in list(RequestKind):
+        raise Refused(Fault.FRAME_BAD_KIND)
+    kind, option = RequestKind(parts.kind), given[0][parts.option :][: parts.option_len]
+    return FrameParts(
+        parts.number,
+        kind,
+        entry_or_none(parts.entry),
+        option if "option" in _PARTS[kind] else None,
+        entry_numbers(numbers) if "order" in _PARTS[kind] else None,
     )
 
 
@@ -179,6 +217,60 @@ class First(_OfEntry):
     """To put an entry in front of BootOrder."""
 
     kind = RequestKind.FIRST
+
+
+_REQUESTS: Tuple[Type[Any], ...] = (Add, Replace, Remove, Order, Next, AddFree, AddFirst, First)
+
+
+def _request_of(parts: FrameParts) -> BootRequest:
+    """The request whose frame has these parts."""
+    given: Dict[str, Any] = {name: getattr(parts, name) for name in _PARTS[parts.kind]}
+    if parts.option is not None:
+        given["option"] = LoadOption.from_bytes(parts.option)
+    request: BootRequest = next(it for it in _REQUESTS if it.kind == parts.kind)(**given)
+    return request
+
+
+class Frame(Value):
+    """A request with its number, as it is sent::
+
+        frame = Frame.from_bytes(data)
+        print(frame.number, frame.request)
+        again = Frame(frame.number + 1, frame.request)
+
+    Each frame goes both ways, to the byte: ``bytes(Frame.from_bytes(data)) == data``. Two are the same if their bytes
+    are.
+    """
+
+    __slots__ = ("_number", "_request")
+
+    _number: int
+    _request: BootRequest
+
+    def __init__(self, number: int, request: BootRequest) -> None:
+        """The frame of the request with this number. Faults as of :meth:`BootRequest.frame`."""
+        self._set(_data=request.frame(number), _number=number, _request=request)
+
+    @classmethod
+    def from_bytes(cls, data: Bytes) -> Frame:
+        """The frame that the bytes are, all of them. ``Refused`` as of :func:`frame_parts`."""
+        held = bytes_in(data)[0]
+        parts, frame = frame_parts(held), cls.__new__(cls)
+        frame._set(_data=held, _number=parts.number, _request=_request_of(parts))
+        return frame
+
+    @property
+    def number(self) -> int:
+        """The number of the request."""
+        return self._number
+
+    @property
+    def request(self) -> BootRequest:
+        """What it asks for."""
+        return self._request
+
+    def __repr__(self) -> str:
+        return f"Frame.from_bytes(bytes.fromhex({self._data.hex()!r}))"
 
 
 def frames(stream: BinaryIO) -> Iterator[bytes]:

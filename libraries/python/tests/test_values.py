@@ -362,6 +362,59 @@ class Requests(OfCases):
         self.assertEqual(pickle.loads(pickle.dumps(request)), request)
         return request.frame(case.members["number"]).hex()
 
+    def test_each_frame_has_its_request(self) -> None:
+        tried = 0
+        for case in cases("boot_requests", "read_frame"):
+            for data in inputs(case):
+                tried += self.compare(case, "Frame", lambda: self.asked(data)) is not None
+        self.assertGreater(tried, 9)
+
+    def asked(self, data: bytes) -> str:
+        """The number of a frame, and what it asks for, as cases show it, or the fault of its option, which is told as that
+        of the option alone."""
+        try:
+            frame = bootkeep.Frame.from_bytes(data)
+        except bootkeep.Refused as why:
+            if not why.kind.name.startswith("OPTION_"):
+                raise
+            return f"Option {fault_words(why, 'Option')}"
+        parts = bootkeep.frame_parts(data)
+        self.assertEqual(bytes(frame), data)
+        self.assertEqual(bootkeep.Frame(frame.number, frame.request), frame)
+        given = {
+            name: getattr(parts, name)
+            for name in ("entry", "option", "order")
+            if getattr(parts, name) is not None
+        }
+        self.assertEqual(bootkeep.frame_make(parts.number, parts.kind, **given), data)
+        self.assertEqual((parts.number, parts.kind), (frame.number, frame.request.kind))
+        words = [f"{number:04X}" for number in parts.order or ()]
+        words += [] if parts.entry is None else [str(parts.entry)]
+        words += [] if parts.option is None else [parts.option.hex()]
+        return " ".join([str(frame.number), type(frame.request).__name__, *words])
+
+    def test_a_frame_is_made_again_with_another_number(self) -> None:
+        frame = bootkeep.Frame(7, bootkeep.Order((3, 1)))
+        self.assertEqual((frame.number, frame.request), (7, bootkeep.Order((3, 1))))
+        again = bootkeep.Frame(8, frame.request)
+        self.assertEqual(bytes(frame).hex(), "425101040700000004000000" "03000100")
+        self.assertEqual(bytes(again).hex(), "425101040800000004000000" "03000100")
+        self.assertNotEqual(frame, again)
+        with bootkeep.Keeper(SET) as keeper:
+            first = bootkeep.Frame(0, bootkeep.Remove(0xFFFF))
+            self.assertEqual(str(keeper.deliver(first)), "applied Missing 1")
+            self.assertEqual(str(keeper.deliver(bytes(first))), "repeat Missing")
+        self.assertRaises(TypeError, bootkeep.Frame.from_bytes, "text")
+        with self.assertRaises(bootkeep.Refused) as caught:
+            bootkeep.Frame(0xFFFFFFFF, frame.request)
+        self.assertEqual(caught.exception.kind, Fault.FRAME_BAD_NUMBER)
+
+    def test_an_order_of_all_entries_has_its_numbers(self) -> None:
+        numbers = tuple(range(0x10000))
+        frame = bootkeep.Frame(0, bootkeep.Order(numbers))
+        self.assertEqual(len(bytes(frame)), bootkeep.FRAME_MAX)
+        self.assertEqual(bootkeep.frame_parts(bytes(frame)).order, numbers)
+
     def test_requests_are_values(self) -> None:
         self.assertEqual(bootkeep.Remove(3), bootkeep.Remove(3))
         self.assertNotEqual(bootkeep.Remove(3), bootkeep.Next(3))
@@ -438,6 +491,7 @@ class Values(unittest.TestCase):
             path,
             LoadOption("Mine", [path]),
             BootVariables.from_bytes(SET),
+            bootkeep.Frame(5, bootkeep.Remove(3)),
         ]
 
     def test_they_are_compared_by_their_bytes(self) -> None:
@@ -469,7 +523,7 @@ class Values(unittest.TestCase):
             self.assertEqual(eval(repr(value), vars(bootkeep)), value)
 
     def test_they_are_taken_where_bytes_are(self) -> None:
-        path, option, _ = self.values
+        path, option, *_ = self.values
         self.assertEqual(bootkeep.option_make(1, "Mine", [path]), bytes(option))
         frame = bootkeep.frame_make(0, bootkeep.RequestKind.ADD_FREE, option=option)
         self.assertEqual(bootkeep.AddFree(option).frame(0), frame)

@@ -48,6 +48,11 @@ impl<'a> Addition<'a> {
     pub fn new(option: &'a LoadOption) -> Addition<'a> {
         Addition { option, number: None, position: Position::Last, again: false }
     }
+
+    /// The same, first in BootOrder.
+    pub fn first(self) -> Addition<'a> {
+        Addition { position: Position::First, ..self }
+    }
 }
 
 /// Where a new entry comes in BootOrder.

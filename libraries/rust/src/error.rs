@@ -349,6 +349,32 @@ faults! {
     UneditedBadNumber = 0x0e0a,
     /// The position is none.
     UneditedBadPosition = 0x0e0b,
+    /// The notes at the start of a journal's file end in the field at this place.
+    NotesTruncated = 0x0f01,
+    /// The notes are to have more than 128 digests: the place is that of their count.
+    NotesTooMany = 0x0f02,
+    /// The identity of notes hasn't 16 bytes.
+    NotesBadIdentity = 0x0f03,
+    /// The record of a change doesn't begin with the four bytes `BKH1`.
+    RecordBadMagic = 0x1001,
+    /// The record ends in the field that begins at this place.
+    RecordTruncated = 0x1002,
+    /// The record has fewer than the four fields before the words.
+    RecordTooFewFields = 0x1003,
+    /// The record's name of the machine has no byte, or more than 4,096.
+    RecordBadMachine = 0x1004,
+    /// The record's time doesn't have eight bytes.
+    RecordBadTime = 0x1005,
+    /// What was before the change is no set: the fault within is the set's.
+    RecordBadBefore = 0x1006,
+    /// What was after the change is no set: the fault within is the set's.
+    RecordBadAfter = 0x1007,
+    /// The word of this number, of which the first is 0, isn't UTF-8.
+    RecordBadWord = 0x1008,
+    /// No zero ends the last word, which begins at this place of the words.
+    RecordOpenWord = 0x1009,
+    /// A word, or a set of the boot manager's variables, has 2^32 bytes or more.
+    RecordTooLong = 0x100a,
 }
 
 impl PartialEq for Fault {

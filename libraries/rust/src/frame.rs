@@ -2,10 +2,11 @@
 
 use crate::entry::EntryNumber;
 use crate::error::{Error, Fault, Refusal};
-use crate::library;
+use crate::library::{self, RawFrame};
 use crate::numbers::*;
 use crate::option::LoadOption;
 use std::fmt;
+use std::hash::{Hash, Hasher};
 use std::io::{self, Read};
 
 /// What a frame asks for.
@@ -52,6 +53,126 @@ pub fn make(number: u32, request: Request<'_>) -> Result<Vec<u8>, Error> {
         Request::AddFree(option) => of_option(REQUEST_ADD_FREE, EntryNumber(0), option),
         Request::AddFirst(option) => of_option(REQUEST_ADD_FIRST, EntryNumber(0), option),
         Request::First(entry) => of_entry(REQUEST_FIRST, entry),
+    }
+}
+
+/// A frame: its bytes, by which it is compared, and the number and the request that they have. Each goes both ways, to the
+/// byte.
+///
+/// ```
+/// use bootkeep::frame::{self, Frame, Request};
+/// use bootkeep::EntryNumber;
+///
+/// # fn main() -> Result<(), bootkeep::Error> {
+/// let frame = Frame::try_from(frame::make(7, Request::First(EntryNumber(3)))?)?;
+/// assert_eq!((frame.number(), frame.request()), (7, Request::First(EntryNumber(3))));
+/// assert_eq!(frame::make(8, frame.request())?.len(), frame.as_ref().len());
+/// # Ok(())
+/// # }
+/// ```
+#[derive(Clone, Debug)]
+pub struct Frame {
+    bytes: Vec<u8>,
+    number: u32,
+    asked: Asked,
+}
+
+/// A request that has its parts.
+#[derive(Clone, Debug)]
+enum Asked {
+    Add(EntryNumber, LoadOption),
+    Replace(EntryNumber, LoadOption),
+    Remove(EntryNumber),
+    Order(Vec<EntryNumber>),
+    Next(EntryNumber),
+    AddFree(LoadOption),
+    AddFirst(LoadOption),
+    First(EntryNumber),
+}
+
+impl Frame {
+    /// The number of the request.
+    pub fn number(&self) -> u32 {
+        self.number
+    }
+
+    /// What it asks for.
+    pub fn request(&self) -> Request<'_> {
+        match &self.asked {
+            Asked::Add(entry, option) => Request::Add(*entry, option),
+            Asked::Replace(entry, option) => Request::Replace(*entry, option),
+            Asked::Remove(entry) => Request::Remove(*entry),
+            Asked::Order(order) => Request::Order(order),
+            Asked::Next(entry) => Request::Next(*entry),
+            Asked::AddFree(option) => Request::AddFree(option),
+            Asked::AddFirst(option) => Request::AddFirst(option),
+            Asked::First(entry) => Request::First(*entry),
+        }
+    }
+
+    /// The bytes of the frame.
+    pub fn into_bytes(self) -> Vec<u8> {
+        self.bytes
+    }
+}
+
+/// What a frame of these parts asks for.
+fn asked(bytes: &[u8], parts: &RawFrame, order: Vec<u16>) -> Result<Asked, Error> {
+    // The number of an entry has two bytes.
+    let entry = EntryNumber(parts.entry as u16);
+    let option = || LoadOption::try_from(&bytes[parts.option..parts.option + parts.option_len]);
+    Ok(match parts.kind {
+        REQUEST_ADD => Asked::Add(entry, option()?),
+        REQUEST_REPLACE => Asked::Replace(entry, option()?),
+        REQUEST_REMOVE => Asked::Remove(entry),
+        REQUEST_ORDER => Asked::Order(order.into_iter().map(EntryNumber).collect()),
+        REQUEST_NEXT => Asked::Next(entry),
+        REQUEST_ADD_FREE => Asked::AddFree(option()?),
+        REQUEST_ADD_FIRST => Asked::AddFirst(option()?),
+        REQUEST_FIRST => Asked::First(entry),
+        // One of a later library, which this crate doesn't know.
+        _ => return Err(Error::Refused(fault_of(Fault::FrameBadKind, None))),
+    })
+}
+
+impl TryFrom<Vec<u8>> for Frame {
+    type Error = Error;
+
+    /// The frame that the bytes are, all of them. A fault `Frame..`, or `Option..` of a load option that isn't one, with
+    /// places in the option; [`Error::NoMemory`].
+    fn try_from(bytes: Vec<u8>) -> Result<Frame, Error> {
+        let (order, parts) = library::frame_parts(&bytes)?;
+        let asked = asked(&bytes, &parts, order)?;
+        Ok(Frame { bytes, number: parts.number, asked })
+    }
+}
+
+impl TryFrom<&[u8]> for Frame {
+    type Error = Error;
+
+    /// As of a `Vec`.
+    fn try_from(bytes: &[u8]) -> Result<Frame, Error> {
+        Frame::try_from(bytes.to_vec())
+    }
+}
+
+impl AsRef<[u8]> for Frame {
+    fn as_ref(&self) -> &[u8] {
+        &self.bytes
+    }
+}
+
+impl PartialEq for Frame {
+    fn eq(&self, other: &Frame) -> bool {
+        self.bytes == other.bytes
+    }
+}
+
+impl Eq for Frame {}
+
+impl Hash for Frame {
+    fn hash<H: Hasher>(&self, state: &mut H) {
+        self.bytes.hash(state);
     }
 }
 

@@ -59,18 +59,34 @@ pub mod image;
 mod keeper;
 #[allow(unsafe_code)]
 mod library;
+#[cfg(feature = "machine")]
+#[allow(unsafe_code)]
+mod linux;
+#[cfg(feature = "machine")]
+pub mod machine;
+#[cfg(feature = "machine")]
+mod machine_numbers;
 mod moves;
+pub mod notes;
 mod numbers;
 pub mod option;
 pub mod path;
+pub mod record;
 pub mod vars;
+#[cfg(feature = "serde")]
+mod with_serde;
 
 pub use entry::{BadEntryNumber, EntryNumber};
 pub use error::{Error, Fault, Refusal};
 pub use file::{FileError, SetFile};
 pub use keeper::{Keeper, Outcome, Reply};
-pub use moves::{Became, End, MachineState, Move, Moves};
-pub use numbers::{DATA_MAX, FRAME_MAX, LIST_MAX, MACHINE_MAX, NAME_MAX, NO_NUMBER, ORDER_MAX, VERSION, WORD_MAX};
+#[cfg(feature = "machine")]
+pub use machine::{Machine, MachineError};
+pub use moves::{Became, End, MachineState, Move, Moves, Same};
+pub use numbers::{
+    DATA_MAX, FRAME_MAX, IDENTITY_LEN, LIST_MAX, MACHINE_MAX, NAME_MAX, NOTES_MAX, NO_NUMBER, ORDER_MAX, VERSION,
+    WORD_MAX,
+};
 pub use option::LoadOption;
 pub use path::{DevicePath, Node, NodeFault};
 
@@ -89,6 +105,16 @@ pub fn version() -> u32 {
 pub fn run(set: &[u8], stream: &[u8]) -> Result<(Vec<u8>, String), Error> {
     let (after, lines) = library::run(set, stream)?;
     Ok((after, ascii(lines)))
+}
+
+/// Whether a journal, the bytes of its file behind its notes, tells of nothing that is left to do; so it is without such a
+/// file, of no bytes.
+///
+/// # Errors
+///
+/// A fault `Journal..`; [`Error::NoMemory`].
+pub fn journal_is_idle(journal: &[u8]) -> Result<bool, Error> {
+    Ok(library::journal_is_idle(journal)? != 0)
 }
 
 /// The word of a number, or the number if the library has no word for it.

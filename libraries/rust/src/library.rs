@@ -1,7 +1,7 @@
 //! The calls of `bootkeep.h`, each once, and two of the system, as safe functions. All that is unsafe is here.
 
 use crate::error::{Error, Refusal};
-use crate::numbers::{ABSENT, CLOSED, DONE, NAME_MAX, NO_MEMORY, NO_ROOM, REFUSED};
+use crate::numbers::{ABSENT, CLOSED, DONE, IDENTITY_LEN, NAME_MAX, NOTES_MAX, NO_MEMORY, NO_ROOM, REFUSED};
 use std::fs::File;
 use std::io;
 use std::mem::size_of;
@@ -16,7 +16,7 @@ const ROOM: usize = 512;
 const RECORD_MAX: usize = 1 + NAME_MAX + 4;
 
 #[repr(C)]
-#[derive(Clone, Copy, Default)]
+#[derive(Clone, Copy, Debug, Default)]
 pub(crate) struct RawRefusal {
     pub(crate) kind: u32,
     pub(crate) inner_kind: u32,
@@ -35,6 +35,18 @@ pub(crate) struct RawParts {
     pub(crate) list_len: usize,
     pub(crate) optional: usize,
     pub(crate) optional_len: usize,
+}
+
+#[repr(C)]
+#[derive(Clone, Copy, Default)]
+pub(crate) struct RawFrame {
+    size: usize,
+    pub(crate) number: u32,
+    pub(crate) kind: u32,
+    pub(crate) entry: u32,
+    reserved: u32,
+    pub(crate) option: usize,
+    pub(crate) option_len: usize,
 }
 
 #[repr(C)]
@@ -71,7 +83,7 @@ pub(crate) struct RawChange {
 }
 
 #[repr(C)]
-#[derive(Clone, Copy, Default)]
+#[derive(Clone, Copy, Debug, Default)]
 pub(crate) struct RawReply {
     size: usize,
     pub(crate) kind: u32,
@@ -82,6 +94,14 @@ pub(crate) struct RawReply {
     pub(crate) next_number: u32,
     pub(crate) plan_next: u32,
     pub(crate) count: usize,
+}
+
+#[cfg(feature = "machine")]
+impl RawReply {
+    /// One that a call can fill.
+    pub(crate) fn new() -> RawReply {
+        RawReply { size: size_of::<RawReply>(), ..RawReply::default() }
+    }
 }
 
 /// `struct bootkeep_keeper`. It isn't moved while it is open, so it is in a box.
@@ -138,9 +158,24 @@ pub(crate) struct RawEdited {
     pub(crate) entry: u32,
 }
 
+#[repr(C)]
+#[derive(Clone, Copy, Default)]
+pub(crate) struct RawRecordParts {
+    size: usize,
+    pub(crate) machine: usize,
+    pub(crate) machine_len: usize,
+    pub(crate) time: u64,
+    pub(crate) before: usize,
+    pub(crate) before_len: usize,
+    pub(crate) after: usize,
+    pub(crate) after_len: usize,
+    pub(crate) words: usize,
+}
+
 // As many bytes as the header asserts.
 const _: () = assert!(size_of::<RawRefusal>() == 24);
 const _: () = assert!(size_of::<RawParts>() == 56);
+const _: () = assert!(size_of::<RawFrame>() == 40);
 const _: () = assert!(size_of::<RawVariable>() == 32);
 const _: () = assert!(size_of::<RawList>() == 32);
 const _: () = assert!(size_of::<RawNamed>() == 12);
@@ -151,6 +186,7 @@ const _: () = assert!(size_of::<RawReply>() == 64);
 const _: () = assert!(size_of::<RawKeeper>() == 16);
 const _: () = assert!(size_of::<RawMoves>() == 16);
 const _: () = assert!(size_of::<RawEnd>() == 40);
+const _: () = assert!(size_of::<RawRecordParts>() == 72);
 
 #[rustfmt::skip]
 extern "C" {
@@ -169,6 +205,7 @@ extern "C" {
     fn bootkeep_option_make(attributes: u32, description: *const u8, description_len: usize, list: *const u8, list_len: usize, optional: *const u8, optional_len: usize, out: *mut u8, cap: usize, len: *mut usize, refusal: *mut RawRefusal) -> u32;
     fn bootkeep_option_make_units(attributes: u32, units: *const u16, units_len: usize, list: *const u8, list_len: usize, optional: *const u8, optional_len: usize, out: *mut u8, cap: usize, len: *mut usize, refusal: *mut RawRefusal) -> u32;
     fn bootkeep_frame_make(number: u32, kind: u32, entry: u16, option: *const u8, option_len: usize, order: *const u16, order_len: usize, out: *mut u8, cap: usize, len: *mut usize, refusal: *mut RawRefusal) -> u32;
+    fn bootkeep_frame_parts(frame: *const u8, frame_len: usize, parts: *mut RawFrame, numbers: *mut u16, cap: usize, len: *mut usize, refusal: *mut RawRefusal) -> u32;
     fn bootkeep_vars_plan(set: *const u8, set_len: usize, numbers: *mut u16, cap: usize, len: *mut usize, next: *mut u32, refusal: *mut RawRefusal) -> u32;
     fn bootkeep_vars_at_risk(set: *const u8, set_len: usize, numbers: *mut u16, cap: usize, len: *mut usize, unnamed: *mut usize, refusal: *mut RawRefusal) -> u32;
     fn bootkeep_vars_get(set: *const u8, set_len: usize, name: *const u8, name_len: usize, out: *mut u8, cap: usize, len: *mut usize, refusal: *mut RawRefusal) -> u32;
@@ -200,6 +237,17 @@ extern "C" {
     fn bootkeep_moves_end(moves: *mut RawMoves, end: *mut RawEnd) -> u32;
     fn bootkeep_moves_reply(moves: *mut RawMoves, place: usize, reply: *mut RawReply) -> u32;
     fn bootkeep_moves_close(moves: *mut RawMoves) -> u32;
+    fn bootkeep_journal_is_idle(journal: *const u8, journal_len: usize, idle: *mut u32, refusal: *mut RawRefusal) -> u32;
+    fn bootkeep_notes_len(notes: *const u8, notes_len: usize, taken: *mut usize, refusal: *mut RawRefusal) -> u32;
+    fn bootkeep_notes_make(identity: *const u8, identity_len: usize, out: *mut u8, cap: usize, len: *mut usize, refusal: *mut RawRefusal) -> u32;
+    fn bootkeep_notes_identity(notes: *const u8, notes_len: usize, out: *mut u8, cap: usize, len: *mut usize, refusal: *mut RawRefusal) -> u32;
+    fn bootkeep_moves_notes(moves: *mut RawMoves, notes: *const u8, notes_len: usize, out: *mut u8, cap: usize, len: *mut usize, refusal: *mut RawRefusal) -> u32;
+    fn bootkeep_moves_same(moves: *mut RawMoves, notes: *const u8, notes_len: usize, place: usize, same: *mut u32, refusal: *mut RawRefusal) -> u32;
+    fn bootkeep_record_make(machine: *const u8, machine_len: usize, time: u64, before: *const u8, before_len: usize, after: *const u8, after_len: usize, words: *const u8, words_len: usize, out: *mut u8, cap: usize, len: *mut usize, refusal: *mut RawRefusal) -> u32;
+    fn bootkeep_record_parts(record: *const u8, record_len: usize, parts: *mut RawRecordParts, refusal: *mut RawRefusal) -> u32;
+    fn bootkeep_record_word(record: *const u8, record_len: usize, number: usize, out: *mut u8, cap: usize, len: *mut usize, refusal: *mut RawRefusal) -> u32;
+    fn bootkeep_record_standing(record: *const u8, record_len: usize, variables: *const u8, variables_len: usize, standing: *mut u32, refusal: *mut RawRefusal) -> u32;
+    fn bootkeep_record_back(record: *const u8, record_len: usize, variables: *const u8, variables_len: usize, out: *mut u8, cap: usize, len: *mut usize, refusal: *mut RawRefusal) -> u32;
     fn bootkeep_image_check(image: *const u8, image_len: usize, stage: *mut u32, effect: *mut u32, refusal: *mut RawRefusal) -> u32;
     fn bootkeep_image_digest(image: *const u8, image_len: usize, out: *mut u8, cap: usize, len: *mut usize, refusal: *mut RawRefusal) -> u32;
     fn bootkeep_signature_lists(bytes: *const u8, bytes_len: usize, lists: *mut RawList, cap: usize, item_size: usize, len: *mut usize, refusal: *mut RawRefusal) -> u32;
@@ -383,6 +431,14 @@ pub(crate) fn frame_make(number: u32, kind: u32, entry: u16, option: &[u8], orde
             len,
             refusal,
         )
+    })
+}
+
+/// The numbers of the order of a frame, and its parts.
+pub(crate) fn frame_parts(frame: &[u8]) -> Result<(Vec<u16>, RawFrame), Error> {
+    given(ROOM, |numbers, len, parts: &mut RawFrame, refusal| unsafe {
+        parts.size = size_of::<RawFrame>();
+        bootkeep_frame_parts(frame.as_ptr(), frame.len(), parts, numbers.as_mut_ptr(), numbers.len(), len, refusal)
     })
 }
 
@@ -637,6 +693,86 @@ impl Drop for Handle {
     }
 }
 
+pub(crate) fn journal_is_idle(journal: &[u8]) -> Result<u32, Error> {
+    told(|idle, refusal| unsafe { bootkeep_journal_is_idle(journal.as_ptr(), journal.len(), idle, refusal) })
+}
+
+pub(crate) fn notes_len(notes: &[u8]) -> Result<usize, Error> {
+    told(|taken, refusal| unsafe { bootkeep_notes_len(notes.as_ptr(), notes.len(), taken, refusal) })
+}
+
+pub(crate) fn notes_make(identity: &[u8]) -> Result<Vec<u8>, Error> {
+    given_alone(NOTES_MAX, |out, len, refusal| unsafe {
+        bootkeep_notes_make(identity.as_ptr(), identity.len(), out.as_mut_ptr(), out.len(), len, refusal)
+    })
+}
+
+pub(crate) fn notes_identity(notes: &[u8]) -> Result<Vec<u8>, Error> {
+    given_alone(IDENTITY_LEN, |out, len, refusal| unsafe {
+        bootkeep_notes_identity(notes.as_ptr(), notes.len(), out.as_mut_ptr(), out.len(), len, refusal)
+    })
+}
+
+pub(crate) fn record_make(
+    machine: &[u8],
+    time: u64,
+    before: &[u8],
+    after: &[u8],
+    words: &[u8],
+) -> Result<Vec<u8>, Error> {
+    given_alone(machine.len() + before.len() + after.len() + words.len() * 4 + ROOM, |out, len, refusal| unsafe {
+        bootkeep_record_make(
+            machine.as_ptr(),
+            machine.len(),
+            time,
+            before.as_ptr(),
+            before.len(),
+            after.as_ptr(),
+            after.len(),
+            words.as_ptr(),
+            words.len(),
+            out.as_mut_ptr(),
+            out.len(),
+            len,
+            refusal,
+        )
+    })
+}
+
+pub(crate) fn record_parts(record: &[u8]) -> Result<RawRecordParts, Error> {
+    told(|parts: &mut RawRecordParts, refusal| unsafe {
+        parts.size = size_of::<RawRecordParts>();
+        bootkeep_record_parts(record.as_ptr(), record.len(), parts, refusal)
+    })
+}
+
+pub(crate) fn record_word(record: &[u8], number: usize) -> Result<Vec<u8>, Error> {
+    given_alone(ROOM, |out, len, refusal| unsafe {
+        bootkeep_record_word(record.as_ptr(), record.len(), number, out.as_mut_ptr(), out.len(), len, refusal)
+    })
+}
+
+pub(crate) fn record_standing(record: &[u8], variables: &[u8]) -> Result<u32, Error> {
+    told(|standing, refusal| unsafe {
+        bootkeep_record_standing(record.as_ptr(), record.len(), variables.as_ptr(), variables.len(), standing, refusal)
+    })
+}
+
+pub(crate) fn record_back(record: &[u8], variables: &[u8]) -> Result<Vec<u8>, Error> {
+    given_alone(record.len() + ROOM, |out, len, refusal| unsafe {
+        bootkeep_record_back(
+            record.as_ptr(),
+            record.len(),
+            variables.as_ptr(),
+            variables.len(),
+            out.as_mut_ptr(),
+            out.len(),
+            len,
+            refusal,
+        )
+    })
+}
+
 /// What a command runs.
 pub(crate) enum Wanted<'a> {
     Nothing,
@@ -763,6 +899,18 @@ impl Command {
             reply.size = size_of::<RawReply>();
             bootkeep_moves_reply(moves, place, reply)
         })
+    }
+
+    pub(crate) fn notes(&mut self, notes: &[u8]) -> Result<Vec<u8>, Error> {
+        let moves: *mut RawMoves = &mut *self.raw;
+        given_alone(NOTES_MAX, |out, len, refusal| unsafe {
+            bootkeep_moves_notes(moves, notes.as_ptr(), notes.len(), out.as_mut_ptr(), out.len(), len, refusal)
+        })
+    }
+
+    pub(crate) fn same(&mut self, notes: &[u8], place: usize) -> Result<u32, Error> {
+        let moves: *mut RawMoves = &mut *self.raw;
+        told(|same, refusal| unsafe { bootkeep_moves_same(moves, notes.as_ptr(), notes.len(), place, same, refusal) })
     }
 }
 

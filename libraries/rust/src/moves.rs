@@ -6,7 +6,8 @@ use crate::keeper::Reply;
 use crate::library::{Command, RawEnd, Wanted};
 use crate::numbers::{
     BECAME_DONE, BECAME_PERHAPS, BECAME_REFUSED, END_DONE, END_NOT_RUN, END_NOT_SETTLED, END_NO_MEMORY,
-    END_RUN_REFUSED, END_TAKEN_BACK, END_UNSETTLED, MOVE_DELETE, MOVE_JOURNAL, MOVE_NONE, MOVE_SET, NO_KIND,
+    END_RUN_REFUSED, END_TAKEN_BACK, END_UNSETTLED, MOVE_DELETE, MOVE_JOURNAL, MOVE_NONE, MOVE_SET, NO_KIND, SAME_NO,
+    SAME_UNKNOWN, SAME_YES,
 };
 use std::fmt;
 
@@ -81,6 +82,31 @@ pub enum End {
     NoMemory,
     /// One that this crate doesn't know.
     Other(u32),
+}
+
+/// Whether a frame that came again is the one that was applied under its number.
+#[derive(Clone, Copy, Debug, PartialEq, Eq)]
+#[non_exhaustive]
+pub enum Same {
+    /// It is no repeat of one that was applied, or no digest of that one is kept.
+    Unknown,
+    /// It is that one.
+    Yes,
+    /// Another frame was applied under its number.
+    No,
+    /// One that this crate doesn't know.
+    Other(u32),
+}
+
+impl Same {
+    pub(crate) fn of(number: u32) -> Same {
+        match number {
+            SAME_UNKNOWN => Same::Unknown,
+            SAME_YES => Same::Yes,
+            SAME_NO => Same::No,
+            other => Same::Other(other),
+        }
+    }
 }
 
 /// A change of a machine of which the caller makes each move, and tells what became of it. What the caller promises is in
@@ -192,6 +218,26 @@ impl Moves {
             END_NO_MEMORY => End::NoMemory,
             other => End::Other(other),
         })
+    }
+
+    /// The notes after a command of frames that has happened, from those before it, or the journal's file that begins with
+    /// them: no bytes if there were none.
+    ///
+    /// # Errors
+    ///
+    /// [`Error::Absent`] if the command isn't one of frames, or hasn't happened; a fault `Notes..`; [`Error::NoMemory`].
+    pub fn notes(&mut self, before: &[u8]) -> Result<Vec<u8>, Error> {
+        self.0.notes(before)
+    }
+
+    /// Whether the frame at this place of the stream, which was a repeat, is the one that was applied under its number, by
+    /// the notes before the command, or the journal's file that begins with them.
+    ///
+    /// # Errors
+    ///
+    /// As of [`Moves::notes`], and [`Error::Absent`] if there is no such frame.
+    pub fn same(&mut self, before: &[u8], place: usize) -> Result<Same, Error> {
+        Ok(Same::of(self.0.same(before, place)?))
     }
 
     fn replies(&mut self, count: usize) -> Result<Vec<Reply>, Error> {

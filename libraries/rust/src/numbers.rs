@@ -20,6 +20,10 @@ pub const ORDER_MAX: usize = 65_536;
 pub const WORD_MAX: usize = 32;
 /// The most bytes of the name of a machine.
 pub const MACHINE_MAX: usize = 4_096;
+/// How many bytes the identity in notes has.
+pub const IDENTITY_LEN: usize = 16;
+/// The most bytes of notes.
+pub const NOTES_MAX: usize = 1_557;
 
 pub(crate) const DONE: u32 = 0;
 pub(crate) const REFUSED: u32 = 1;
@@ -117,3 +121,11 @@ pub(crate) const END_RUN_REFUSED: u32 = 4;
 pub(crate) const END_TAKEN_BACK: u32 = 5;
 pub(crate) const END_UNSETTLED: u32 = 6;
 pub(crate) const END_NO_MEMORY: u32 = 7;
+
+pub(crate) const SAME_UNKNOWN: u32 = 0;
+pub(crate) const SAME_YES: u32 = 1;
+pub(crate) const SAME_NO: u32 = 2;
+
+pub(crate) const STANDING_UNCHANGED: u32 = 0;
+pub(crate) const STANDING_NOT_MADE: u32 = 1;
+pub(crate) const STANDING_CHANGED: u32 = 2;

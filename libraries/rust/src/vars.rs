@@ -107,7 +107,7 @@ pub struct Change<'a> {
 }
 
 impl EntryState {
-    fn of(number: u32) -> EntryState {
+    pub(crate) fn of(number: u32) -> EntryState {
         match number {
             ENTRY_NORMAL => EntryState::Normal,
             ENTRY_ABSENT => EntryState::Absent,

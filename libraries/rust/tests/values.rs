@@ -3,7 +3,7 @@
 
 mod cases;
 
-use bootkeep::frame::{self, Request, StreamFault};
+use bootkeep::frame::{self, Frame, Request, StreamFault};
 use bootkeep::{
     option, path, vars, DevicePath, EntryNumber, Error, Fault, Keeper, LoadOption, Node, NodeFault, SetFile,
 };
@@ -241,6 +241,55 @@ fn each_request_has_its_frame() {
         let digits = |frame: Vec<u8>| frame.iter().map(|byte| format!("{byte:02x}")).collect();
         assert_eq!(told(frame_of(&case).map(digits), "Frame"), case.answer());
     }
+}
+
+/// What a frame asks for, as cases show it.
+fn asked(frame: &Frame) -> String {
+    let (name, entry, option) = match frame.request() {
+        Request::Add(entry, option) => ("Add", Some(entry), Some(option)),
+        Request::Replace(entry, option) => ("Replace", Some(entry), Some(option)),
+        Request::Remove(entry) => ("Remove", Some(entry), None),
+        Request::Order(_) => ("Order", None, None),
+        Request::Next(entry) => ("Next", Some(entry), None),
+        Request::AddFree(option) => ("AddFree", None, Some(option)),
+        Request::AddFirst(option) => ("AddFirst", None, Some(option)),
+        Request::First(entry) => ("First", Some(entry), None),
+    };
+    let mut words = vec![frame.number().to_string(), name.to_owned()];
+    if let Request::Order(order) = frame.request() {
+        words.extend(order.iter().map(EntryNumber::to_string));
+    }
+    words.extend(entry.map(|entry| entry.to_string()));
+    words.extend(option.map(|option| option.as_ref().iter().map(|byte| format!("{byte:02x}")).collect()));
+    words.join(" ")
+}
+
+#[test]
+fn each_frame_has_its_request() {
+    for case in cases("boot_requests.json", "read_frame") {
+        for bytes in case.inputs() {
+            let read = Frame::try_from(&bytes[..]);
+            if let Ok(frame) = &read {
+                assert_eq!(frame.as_ref(), bytes);
+                assert_eq!(frame::make(frame.number(), frame.request()).as_ref(), Ok(&bytes));
+            }
+            // The fault of an option is told as that of the option alone.
+            let answer = case.answer();
+            match answer.strip_prefix("Option ") {
+                Some(fault) => assert_eq!(told(read.map(|frame| asked(&frame)), "Option"), fault),
+                None => assert_eq!(told(read.map(|frame| asked(&frame)), "Frame"), answer),
+            }
+        }
+    }
+}
+
+#[test]
+fn a_frame_is_made_again_with_another_number() {
+    let frame = Frame::try_from(frame::make(7, Request::Order(&[EntryNumber(3), EntryNumber(1)])).unwrap()).unwrap();
+    assert_eq!(frame.as_ref(), b"\x42\x51\x01\x04\x07\0\0\0\x04\0\0\0\x03\0\x01\0");
+    let again = frame::make(8, frame.request()).unwrap();
+    assert_eq!(again, b"\x42\x51\x01\x04\x08\0\0\0\x04\0\0\0\x03\0\x01\0");
+    assert_ne!(Frame::try_from(again).unwrap(), frame);
 }
 
 /// A stream that gives a byte at a time, and fails after its end.

@@ -1,0 +1,1 @@
+//! Nothing: it stands for serde where that isn't compiled.
