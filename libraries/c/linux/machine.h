@@ -337,6 +337,9 @@ const uint8_t *journal_end_of_name(struct bytes file);
 /* What is being done to a machine, as the replacements of its journal tell. */
 enum doing { DOING_NOTHING, DOING_SETTLING, DOING_FIRST, DOING_BACK };
 
+/* What a command came to whose last journal is written, whether or not there is memory to ask how it ended. */
+enum ended { ENDED_NOT, ENDED_DONE, ENDED_TAKEN_BACK, ENDED_SETTLED };
+
 /* The most moves that can fail in a call. */
 #define FAILED_MAX 8
 
@@ -354,6 +357,7 @@ struct session {
     /* Whether the journal had notes before this call. */
     bool had_notes;
     enum doing doing;
+    enum ended ended;
     /* The variables that this call has begun to write, since its changes are made for the first time. */
     struct texts begun;
     /* Why moves failed, the first one first. A move's reason is its place here and 1. */

@@ -77,6 +77,14 @@ static enum doing doing_after(enum doing doing, bool is_idle)
     return doing == DOING_SETTLING ? DOING_SETTLING : DOING_BACK;
 }
 
+/* What a command comes to that writes a journal with nothing left to do while this is being done. */
+static enum ended ended_by(enum doing doing)
+{
+    if (doing == DOING_SETTLING)
+        return ENDED_SETTLED;
+    return doing == DOING_BACK ? ENDED_TAKEN_BACK : ENDED_DONE;
+}
+
 /* Replaces the journal. */
 static bool make_journal(struct session *session, const struct move *move, struct reason *why)
 {
@@ -93,6 +101,7 @@ static bool make_journal(struct session *session, const struct move *move, struc
     if (!journal_replace(session->machine, session->notes, move->bytes, why))
         return false;
     if (idle != 0) {
+        session->ended = ended_by(session->doing);
         session->doing = DOING_NOTHING;
         texts_free(&session->begun);
     }

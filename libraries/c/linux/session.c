@@ -188,20 +188,37 @@ static uint32_t tell_end(struct session *session, const struct bootkeep_moves_en
     }
 }
 
+/* Tells what a command came to that was made for real, and to which memory was refused between two moves, or behind
+ * all. */
+static uint32_t tell_without_memory(struct session *session)
+{
+    struct bootkeep_machine *machine = session->machine;
+
+    if (session->ended == ENDED_DONE)
+        return BOOTKEEP_DONE;
+    if (session->ended == ENDED_TAKEN_BACK && session->failed_len > 0) {
+        machine->outcome.why = session->failed[0];
+        return call_ended(machine, BOOTKEEP_MACHINE_AT_CHANGE, BOOTKEEP_MACHINE_TAKEN_BACK,
+                          BOOTKEEP_MACHINE_LEFT_TAKEN_BACK);
+    }
+    if (session->doing == DOING_NOTHING)
+        return call_no_memory(machine);
+    /* What the journal tells is done by the next change. */
+    reason_set(&machine->outcome.why, machine->state, ENOMEM, BOOTKEEP_NO_KIND);
+    return call_ended(machine, BOOTKEEP_MACHINE_AT_CHANGE, BOOTKEEP_MACHINE_UNSETTLED, BOOTKEEP_MACHINE_LEFT_OWED);
+}
+
 /* Makes the moves of a command that was begun, closes it, and tells how it ended. */
 static uint32_t make_moves(struct session *session, struct bootkeep_moves *moves, struct bootkeep_moves_end *end)
 {
-    uint32_t status = moves_make(session, moves, &session->store, session->dry_run, end);
+    uint32_t status;
 
+    session->ended = ENDED_NOT;
+    status = moves_make(session, moves, &session->store, session->dry_run, end);
     bootkeep_moves_close(moves);
     if (status == BOOTKEEP_DONE)
         return tell_end(session, end);
-    /* Memory was refused between two moves: what the journal tells is done by the next change. */
-    if (session->doing == DOING_NOTHING || session->dry_run)
-        return call_no_memory(session->machine);
-    reason_set(&session->machine->outcome.why, session->machine->state, ENOMEM, BOOTKEEP_NO_KIND);
-    return call_ended(session->machine, BOOTKEEP_MACHINE_AT_CHANGE, BOOTKEEP_MACHINE_UNSETTLED,
-                      BOOTKEEP_MACHINE_LEFT_OWED);
+    return session->dry_run ? call_no_memory(session->machine) : tell_without_memory(session);
 }
 
 /* The fault of a command that can't be begun. */
