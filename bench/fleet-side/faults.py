@@ -596,6 +596,16 @@ class Faults(Fleet):
                 times = there[option]
             if times > 1:
                 self.twice[f"{name}: {job.kind} {job.label}: {times} times"] += 1
+                self.tell_requests(name, job)
+
+    def tell_requests(self, name: str, job: Job) -> None:
+        """Tells what the ledger has of a job that a machine has done twice, and whether there was a copy of the machine."""
+        numbers = ", ".join(str(it.number) for it in self.jobs if it.label == job.label)
+        asked = self.query(
+            "SELECT job, era, number, attempt, part, state, outcome, stored FROM request"
+            f" WHERE machine = '{name.partition(',')[0]}' AND job IN ({numbers}) ORDER BY era, number, attempt"
+        )
+        say(f"{name}: {job.kind} {job.label}, copied: {name in self.copied}: requests {asked}")
 
     def tell(self) -> None:
         """Tells what was drawn, and what was counted, also if it didn't come to its end."""
