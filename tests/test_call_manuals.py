@@ -185,14 +185,13 @@ class ThisHeader(unittest.TestCase):
         self.assertEqual(seen, known)
 
     def test_each_refusal_is_one_of_a_call(self) -> None:
-        """But for those that only a reply or an end has, and what stands for none."""
+        """But for those that only a reply has, and what stands for none."""
         answered = {it.name for manual in self.made for it in manual.refusals()}
         refusals = {it.name for it in self.header.constants[call_header.REFUSALS]}
         others = refusals - answered
         in_replies = {it for it in others if it.startswith("BOOTKEEP_FAULT_FRAME_")}
-        in_ends = {"BOOTKEEP_FAULT_MACHINE_TOO_LONG"}
         none = {"BOOTKEEP_NO_KIND", "BOOTKEEP_NO_PLACE"}
-        self.assertEqual(others - in_replies, in_ends | none)
+        self.assertEqual(others - in_replies, none)
         for manual in self.made:
             self.assertEqual(bool(manual.refusals()), "BOOTKEEP_REFUSED" in manual.call.statuses())
 

@@ -30,6 +30,7 @@ KINDS = {
     "journals": "JOURNAL_",
     "notes": "NOTES_",
     "records": "RECORD_",
+    "variable files": "STORE_",
     "machines": "MACHINE_",
     "edits": "UNEDITED_",
 }

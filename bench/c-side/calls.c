@@ -294,6 +294,10 @@ static uint32_t once_other(struct call *call)
             (const uint16_t *)(const void *)call->given[2].at, call->given[2].len / 2, OUT(0), &call->refusal);
     else if (is(call, "frame_parts"))
         status = bootkeep_frame_parts(GIVEN(0), &call->frame, NUMBERS, &call->refusal);
+    else if (is(call, "store_vars"))
+        status = bootkeep_store_vars(GIVEN(0), OUT(0), &call->refusal);
+    else if (is(call, "store_with"))
+        status = bootkeep_store_with(GIVEN(0), GIVEN(1), OUT(0), &call->refusal);
     else if (is(call, "run"))
         status = bootkeep_run(GIVEN(0), GIVEN(1), OUT(0), OUT(1), &call->refusal);
     else

@@ -309,6 +309,8 @@ CALLS: Dict[str, Callable[..., str]] = {
     "option_make_units": option_make_units,
     "frame_make": frame_make,
     "frame_parts": frame_parts,
+    "store_vars": lambda file: digits(bootkeep.store_vars(file)),
+    "store_with": lambda file, kept: digits(bootkeep.store_with(file, kept)),
     "vars_plan": vars_plan,
     "vars_list": vars_list,
     "vars_named": vars_named,

@@ -6,7 +6,7 @@ use bootkeep::frame::{Frame, Request};
 use bootkeep::record::Standing;
 use bootkeep::vars::{Addition, BootVariable, ChangeKind, Edit, EditOutcome, EntryState, NewOrder, Plan, Position};
 use bootkeep::{
-    frame, image, notes, option, path, record, vars, Became, End, EntryNumber, Error, Fault, Keeper, LoadOption,
+    frame, image, notes, option, path, record, store, vars, Became, End, EntryNumber, Error, Fault, Keeper, LoadOption,
     MachineState, Move, Moves, Outcome, Refusal, Reply, Same,
 };
 use std::io::{self, BufRead};
@@ -117,6 +117,8 @@ fn made(name: &str, given: &[Vec<u8>]) -> Result<String, Error> {
         }
         "frame_make" => frame_make(first, &given[1], &given[2]),
         "frame_parts" => frame_parts(first),
+        "store_vars" => store::vars(first).map(|kept| digits(&kept)),
+        "store_with" => store::with(first, &given[1]).map(|after| digits(&after)),
         "vars_edit" => vars_edit(first, &given[1], &given[2], &given[3]),
         "image_check" => match image::check(first)? {
             Some(fault) => Err(Error::Refused(fault.refusal)),

@@ -33,3 +33,4 @@ pub mod Notes
 pub mod Noted
 pub mod CommandLines
 pub mod Records
+pub mod Stores

@@ -40,6 +40,12 @@ use Rattle.boot_journal.specs.declared.fault.JournalFault.{JournalFault}
 use Rattle.boot_journal.specs.declared.fault.JournalFault.TheVariants as journal
 use Rattle.boot_notes.specs.declared.fault.NotesFault.{NotesFault}
 use Rattle.boot_notes.specs.declared.fault.NotesFault.TheVariants as notes
+use Rattle.boot_journal.specs.declared.attributes.AttributesFault.{AttributesFault}
+use Rattle.boot_journal.specs.declared.attributes.AttributesFault.TheVariants as attributes
+use Rattle.var_stores.specs.declared.fault.StoreFault.{StoreFault}
+use Rattle.var_stores.specs.declared.fault.StoreFault.TheVariants as store
+use Rattle.var_stores.specs.declared.write_fault.WriteFault.{WriteFault as RewriteFault}
+use Rattle.var_stores.specs.declared.write_fault.WriteFault.TheVariants as rewriting
 use Rattle.change_records.specs.declared.fault.RecordFault.{RecordFault}
 use Rattle.change_records.specs.declared.fault.RecordFault.TheVariants as recorded
 use Rattle.change_records.specs.declared.fault.WriteFault.{WriteFault}
@@ -293,6 +299,28 @@ record_failure recorded.OutOfMemory = failure.Memory
 abbrev pub write_failure : WriteFault → Failure
 write_failure writing.TooLong = bare 0x100A
 write_failure writing.OutOfMemory = failure.Memory
+
+-- what a machine keeps that no set has, or that has no data
+abbrev pub attributes_failure : AttributesFault → Failure
+attributes_failure attributes.NoData = bare 0x0D03
+attributes_failure attributes.TooLong = bare 0x0D04
+attributes_failure attributes.OutOfMemory = failure.Memory
+
+-- a file that is no variable file of an emulator
+abbrev pub store_failure : StoreFault → Failure
+store_failure store.NoVolume = bare 0x1101
+store_failure store.BadHeader = bare 0x1102
+store_failure store.NoStore = bare 0x1103
+store_failure store.Unauthenticated = bare 0x1104
+store_failure store.BadStore = bare 0x1105
+store_failure (store.CutRecord place) = at_place 0x1106 place
+store_failure store.OutOfMemory = failure.Memory
+
+-- a file that isn't written
+abbrev pub rewrite_failure : RewriteFault → Failure
+rewrite_failure (rewriting.Store fault) = store_failure fault
+rewrite_failure rewriting.Full = bare 0x1107
+rewrite_failure rewriting.OutOfMemory = failure.Memory
 
 -- ---- what a call tells
 

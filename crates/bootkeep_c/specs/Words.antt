@@ -224,6 +224,18 @@ record_word kind =
     else (if kind == 0x100A then Some (codes "RecordTooLong")
     else None)))))))))
 
+-- of an emulator's variable file
+abbrev pub store_word : ℕ → Option (List ℕ)
+store_word kind =
+    if kind == 0x1101 then Some (codes "StoreNoVolume")
+    else (if kind == 0x1102 then Some (codes "StoreBadHeader")
+    else (if kind == 0x1103 then Some (codes "StoreNoStore")
+    else (if kind == 0x1104 then Some (codes "StoreUnauthenticated")
+    else (if kind == 0x1105 then Some (codes "StoreBadStore")
+    else (if kind == 0x1106 then Some (codes "StoreCutRecord")
+    else (if kind == 0x1107 then Some (codes "StoreFull")
+    else None))))))
+
 -- of a change of a machine or of a set, and of what is kept of it
 unfoldable pub change_word : ℕ → Option (List ℕ)
 change_word kind =
@@ -232,7 +244,8 @@ change_word kind =
     else (if kind / 0x100 == 14 then edit_word kind
     else (if kind / 0x100 == 15 then notes_word kind
     else (if kind / 0x100 == 16 then record_word kind
-    else None))))
+    else (if kind / 0x100 == 17 then store_word kind
+    else None)))))
 
 -- of what a file has, and of a change
 unfoldable pub file_word : ℕ → Option (List ℕ)

@@ -2,40 +2,119 @@
 
 ghost use Rattle.std.specs.Prelude.{◌≡◌};
 ghost use Rattle.bootkeep_c.specs.declared.failure.Failure.TheVariants as failure;
-ghost use Rattle.bootkeep_c.specs.Refusals.{at_place, bare, path_failure, text_failure, named_failure, list_failure, option_failure, set_failure, vars_failure, open_failure, put_failure, edit_failure, feed_failure, frame_failure, image_failure, digest_failure, lists_failure, journal_failure, notes_failure, record_failure, write_failure, part_failure, Tells};
+ghost use Rattle.bootkeep_c.specs.Refusals.{at_place, bare, path_failure, text_failure, named_failure, list_failure, option_failure, set_failure, vars_failure, open_failure, put_failure, edit_failure, feed_failure, frame_failure, image_failure, digest_failure, lists_failure, journal_failure, notes_failure, record_failure, write_failure, part_failure, attributes_failure, store_failure, rewrite_failure, Tells};
 
 use crate::image_number::image_number;
-use crate::refusal::{
-    FRAME_BAD_KIND, FRAME_BAD_MAGIC, FRAME_BAD_NUMBER, FRAME_BAD_PAYLOAD, FRAME_BAD_SIZE,
-    FRAME_BAD_VERSION, FRAME_SHORT, FRAME_TOO_LONG, IMAGE_CERTIFICATES_OVERLAP, IMAGE_OVERLAP,
-    JOURNAL_BAD_COURSE, JOURNAL_BAD_IDENTITY, JOURNAL_BAD_MACHINE, JOURNAL_BAD_MAGIC,
-    JOURNAL_BAD_NAME, JOURNAL_TRUNCATED, JOURNAL_VALUE_TOO_LONG, LISTS_BAD_LIST_SIZE,
-    LISTS_BAD_SIGNATURE_SIZE, LISTS_CUT_HEADER, NO_KIND, NO_PLACE, NOTES_TOO_MANY, NOTES_TRUNCATED,
-    OPTION_EMPTY_LIST, OPTION_LIST_PAST_END, OPTION_LIST_TOO_LONG, OPTION_NO_TERMINATOR,
-    OPTION_PATH, OPTION_SHORT, OPTION_ZERO_UNIT, PATH_BAD_END, PATH_BAD_LENGTH, PATH_NO_END,
-    PATH_PAST_END, PATH_SHORT_HEADER, PUT_BAD_NAME, PUT_DATA_TOO_LONG, PUT_EMPTY_DATA,
-    RECORD_BAD_AFTER, RECORD_BAD_BEFORE, RECORD_BAD_MACHINE, RECORD_BAD_MAGIC, RECORD_BAD_TIME,
-    RECORD_BAD_WORD, RECORD_TOO_FEW_FIELDS, RECORD_TOO_LONG, RECORD_TRUNCATED, Refusal,
-    SET_BAD_DATA, SET_BAD_MAGIC, SET_BAD_NAME, SET_NOT_RISING, SET_TRUNCATED, STREAM_BAD_MAGIC,
-    STREAM_BAD_VERSION, STREAM_TOO_LONG, TEXT_BAD_ARGUMENT, TEXT_BAD_COUNT, TEXT_BAD_DATA,
-    TEXT_BAD_END, TEXT_BAD_NUMBER, TEXT_BAD_SEGMENT, TEXT_OUT_OF_RANGE, TEXT_UNKNOWN_NAME,
-    UNEDITED_MISSING, UNEDITED_NO_FREE, UNEDITED_NO_OPTION, UNEDITED_OPTION_TOO_LONG,
-    UNEDITED_ORDER_TOO_LONG, UNEDITED_STALE, UNEDITED_TAKEN, UNEDITED_TWICE, VARS_BAD_NEXT,
-    VARS_BAD_ORDER, VARS_BAD_STATE,
-};
-use crate::status::{NO_MEMORY, REFUSED};
+use crate::refusal::FRAME_BAD_KIND;
+use crate::refusal::FRAME_BAD_MAGIC;
+use crate::refusal::FRAME_BAD_NUMBER;
+use crate::refusal::FRAME_BAD_PAYLOAD;
+use crate::refusal::FRAME_BAD_SIZE;
+use crate::refusal::FRAME_BAD_VERSION;
+use crate::refusal::FRAME_SHORT;
+use crate::refusal::FRAME_TOO_LONG;
+use crate::refusal::IMAGE_CERTIFICATES_OVERLAP;
+use crate::refusal::IMAGE_OVERLAP;
+use crate::refusal::JOURNAL_BAD_COURSE;
+use crate::refusal::JOURNAL_BAD_IDENTITY;
+use crate::refusal::JOURNAL_BAD_MACHINE;
+use crate::refusal::JOURNAL_BAD_MAGIC;
+use crate::refusal::JOURNAL_BAD_NAME;
+use crate::refusal::JOURNAL_TRUNCATED;
+use crate::refusal::JOURNAL_VALUE_TOO_LONG;
+use crate::refusal::LISTS_BAD_LIST_SIZE;
+use crate::refusal::LISTS_BAD_SIGNATURE_SIZE;
+use crate::refusal::LISTS_CUT_HEADER;
+use crate::refusal::MACHINE_NO_DATA;
+use crate::refusal::MACHINE_TOO_LONG;
+use crate::refusal::NO_KIND;
+use crate::refusal::NO_PLACE;
+use crate::refusal::NOTES_TOO_MANY;
+use crate::refusal::NOTES_TRUNCATED;
+use crate::refusal::OPTION_EMPTY_LIST;
+use crate::refusal::OPTION_LIST_PAST_END;
+use crate::refusal::OPTION_LIST_TOO_LONG;
+use crate::refusal::OPTION_NO_TERMINATOR;
+use crate::refusal::OPTION_PATH;
+use crate::refusal::OPTION_SHORT;
+use crate::refusal::OPTION_ZERO_UNIT;
+use crate::refusal::PATH_BAD_END;
+use crate::refusal::PATH_BAD_LENGTH;
+use crate::refusal::PATH_NO_END;
+use crate::refusal::PATH_PAST_END;
+use crate::refusal::PATH_SHORT_HEADER;
+use crate::refusal::PUT_BAD_NAME;
+use crate::refusal::PUT_DATA_TOO_LONG;
+use crate::refusal::PUT_EMPTY_DATA;
+use crate::refusal::RECORD_BAD_AFTER;
+use crate::refusal::RECORD_BAD_BEFORE;
+use crate::refusal::RECORD_BAD_MACHINE;
+use crate::refusal::RECORD_BAD_MAGIC;
+use crate::refusal::RECORD_BAD_TIME;
+use crate::refusal::RECORD_BAD_WORD;
+use crate::refusal::RECORD_TOO_FEW_FIELDS;
+use crate::refusal::RECORD_TOO_LONG;
+use crate::refusal::RECORD_TRUNCATED;
+use crate::refusal::Refusal;
+use crate::refusal::SET_BAD_DATA;
+use crate::refusal::SET_BAD_MAGIC;
+use crate::refusal::SET_BAD_NAME;
+use crate::refusal::SET_NOT_RISING;
+use crate::refusal::SET_TRUNCATED;
+use crate::refusal::STORE_BAD_HEADER;
+use crate::refusal::STORE_BAD_STORE;
+use crate::refusal::STORE_CUT_RECORD;
+use crate::refusal::STORE_FULL;
+use crate::refusal::STORE_NO_STORE;
+use crate::refusal::STORE_NO_VOLUME;
+use crate::refusal::STORE_UNAUTHENTICATED;
+use crate::refusal::STREAM_BAD_MAGIC;
+use crate::refusal::STREAM_BAD_VERSION;
+use crate::refusal::STREAM_TOO_LONG;
+use crate::refusal::TEXT_BAD_ARGUMENT;
+use crate::refusal::TEXT_BAD_COUNT;
+use crate::refusal::TEXT_BAD_DATA;
+use crate::refusal::TEXT_BAD_END;
+use crate::refusal::TEXT_BAD_NUMBER;
+use crate::refusal::TEXT_BAD_SEGMENT;
+use crate::refusal::TEXT_OUT_OF_RANGE;
+use crate::refusal::TEXT_UNKNOWN_NAME;
+use crate::refusal::UNEDITED_MISSING;
+use crate::refusal::UNEDITED_NO_FREE;
+use crate::refusal::UNEDITED_NO_OPTION;
+use crate::refusal::UNEDITED_OPTION_TOO_LONG;
+use crate::refusal::UNEDITED_ORDER_TOO_LONG;
+use crate::refusal::UNEDITED_STALE;
+use crate::refusal::UNEDITED_TAKEN;
+use crate::refusal::UNEDITED_TWICE;
+use crate::refusal::VARS_BAD_NEXT;
+use crate::refusal::VARS_BAD_ORDER;
+use crate::refusal::VARS_BAD_STATE;
+use crate::status::NO_MEMORY;
+use crate::status::REFUSED;
 use boot_edits::EditFault;
+use boot_journal::AttributesFault;
 use boot_journal::JournalFault;
 use boot_notes::NotesFault;
-use boot_requests::{FeedFault, FrameFault, OpenFault};
-use change_records::{RecordFault, WriteFault};
-use efi_images::{DigestFault, ImageFault, ListFault};
-use std::alloc::{AllocError, AllocFailed};
+use boot_requests::FeedFault;
+use boot_requests::FrameFault;
+use boot_requests::OpenFault;
+use change_records::RecordFault;
+use change_records::WriteFault;
+use efi_images::DigestFault;
+use efi_images::ImageFault;
+use efi_images::ListFault;
+use std::alloc::AllocError;
+use std::alloc::AllocFailed;
 use uefi_names::NamedFault;
 use uefi_option::OptionFault;
 use uefi_path::PathFault;
 use uefi_text::TextFault;
-use uefi_vars::{PutFault, SetFault, VarFault};
+use uefi_vars::PutFault;
+use uefi_vars::SetFault;
+use uefi_vars::VarFault;
+use var_stores::StoreFault;
+use var_stores::WriteFault as RewriteFault;
 
 /// Why a call has no answer.
 #[derive(Clone, Copy, Debug)]
@@ -380,6 +459,46 @@ impl From<WriteFault> for Failure {
         match fault {
             WriteFault::TooLong => Failure::bare(RECORD_TOO_LONG),
             WriteFault::OutOfMemory => Failure::Memory,
+        }
+    }
+}
+
+impl From<AttributesFault> for Failure {
+    ghost from_gives = { λ fault made. made ≡ attributes_failure fault };
+
+    fn from(fault: AttributesFault) -> Failure {
+        match fault {
+            AttributesFault::NoData => Failure::bare(MACHINE_NO_DATA),
+            AttributesFault::TooLong => Failure::bare(MACHINE_TOO_LONG),
+            AttributesFault::OutOfMemory => Failure::Memory,
+        }
+    }
+}
+
+impl From<StoreFault> for Failure {
+    ghost from_gives = { λ fault made. made ≡ store_failure fault };
+
+    fn from(fault: StoreFault) -> Failure {
+        match fault {
+            StoreFault::NoVolume => Failure::bare(STORE_NO_VOLUME),
+            StoreFault::BadHeader => Failure::bare(STORE_BAD_HEADER),
+            StoreFault::NoStore => Failure::bare(STORE_NO_STORE),
+            StoreFault::Unauthenticated => Failure::bare(STORE_UNAUTHENTICATED),
+            StoreFault::BadStore => Failure::bare(STORE_BAD_STORE),
+            StoreFault::CutRecord(place) => Failure::at(STORE_CUT_RECORD, place),
+            StoreFault::OutOfMemory => Failure::Memory,
+        }
+    }
+}
+
+impl From<RewriteFault> for Failure {
+    ghost from_gives = { λ fault made. made ≡ rewrite_failure fault };
+
+    fn from(fault: RewriteFault) -> Failure {
+        match fault {
+            RewriteFault::Store(fault) => Failure::from(fault),
+            RewriteFault::Full => Failure::bare(STORE_FULL),
+            RewriteFault::OutOfMemory => Failure::Memory,
         }
     }
 }

@@ -117,6 +117,13 @@ use crate::refusal::SET_BAD_MAGIC;
 use crate::refusal::SET_BAD_NAME;
 use crate::refusal::SET_NOT_RISING;
 use crate::refusal::SET_TRUNCATED;
+use crate::refusal::STORE_BAD_HEADER;
+use crate::refusal::STORE_BAD_STORE;
+use crate::refusal::STORE_CUT_RECORD;
+use crate::refusal::STORE_FULL;
+use crate::refusal::STORE_NO_STORE;
+use crate::refusal::STORE_NO_VOLUME;
+use crate::refusal::STORE_UNAUTHENTICATED;
 use crate::refusal::STREAM_BAD_MAGIC;
 use crate::refusal::STREAM_BAD_VERSION;
 use crate::refusal::STREAM_REST;
@@ -307,5 +314,12 @@ pub fn numbers_of_refusals_stay()
     ensures record_bad_word { RECORD_BAD_WORD ≡ 0x1008 }
     ensures record_open_word { RECORD_OPEN_WORD ≡ 0x1009 }
     ensures record_too_long { RECORD_TOO_LONG ≡ 0x100A }
+    ensures store_no_volume { STORE_NO_VOLUME ≡ 0x1101 }
+    ensures store_bad_header { STORE_BAD_HEADER ≡ 0x1102 }
+    ensures store_no_store { STORE_NO_STORE ≡ 0x1103 }
+    ensures store_unauthenticated { STORE_UNAUTHENTICATED ≡ 0x1104 }
+    ensures store_bad_store { STORE_BAD_STORE ≡ 0x1105 }
+    ensures store_cut_record { STORE_CUT_RECORD ≡ 0x1106 }
+    ensures store_full { STORE_FULL ≡ 0x1107 }
     ensures no_place { NO_PLACE ≡ no_place }
 {}

@@ -48,6 +48,7 @@ mod session_begin;
 mod session_handle;
 mod set;
 mod status;
+mod store;
 mod text;
 mod variable;
 mod version;
@@ -99,6 +100,7 @@ pub use set::{
     bootkeep_vars_at_risk, bootkeep_vars_get, bootkeep_vars_plan, bootkeep_vars_put,
     bootkeep_vars_remove,
 };
+pub use store::{bootkeep_store_vars, bootkeep_store_with};
 pub use text::bootkeep_path_parse_exact;
 pub use variable::{VariablePlaces, bootkeep_vars_list};
 pub use version::{VERSION, bootkeep_version};

@@ -2,7 +2,7 @@
 
 ghost use Rattle.std.specs.Prelude.{◌≡◌, ◌≤◌, IfSome, length};
 ghost use Rattle.std.specs.Option.{option_map};
-ghost use Rattle.bootkeep_c.specs.Words.{word_max, change_word, journal_word, machine_word, edit_word, notes_word, record_word};
+ghost use Rattle.bootkeep_c.specs.Words.{word_max, change_word, journal_word, machine_word, edit_word, notes_word, record_word, store_word};
 
 use crate::refusal::{
     JOURNAL_BAD_COURSE, JOURNAL_BAD_IDENTITY, JOURNAL_BAD_MACHINE, JOURNAL_BAD_MAGIC,
@@ -10,10 +10,11 @@ use crate::refusal::{
     JOURNAL_VALUE_TOO_LONG, MACHINE_BAD_NAME, MACHINE_BAD_START, MACHINE_NO_DATA, MACHINE_TOO_LONG,
     NOTES_BAD_IDENTITY, NOTES_TOO_MANY, NOTES_TRUNCATED, RECORD_BAD_AFTER, RECORD_BAD_BEFORE,
     RECORD_BAD_MACHINE, RECORD_BAD_MAGIC, RECORD_BAD_TIME, RECORD_BAD_WORD, RECORD_OPEN_WORD,
-    RECORD_TOO_FEW_FIELDS, RECORD_TOO_LONG, RECORD_TRUNCATED, UNEDITED_BAD_KIND,
-    UNEDITED_BAD_NUMBER, UNEDITED_BAD_POSITION, UNEDITED_MISSING, UNEDITED_NO_FREE,
-    UNEDITED_NO_OPTION, UNEDITED_OPTION_TOO_LONG, UNEDITED_ORDER_TOO_LONG, UNEDITED_STALE,
-    UNEDITED_TAKEN, UNEDITED_TWICE,
+    RECORD_TOO_FEW_FIELDS, RECORD_TOO_LONG, RECORD_TRUNCATED, STORE_BAD_HEADER, STORE_BAD_STORE,
+    STORE_CUT_RECORD, STORE_FULL, STORE_NO_STORE, STORE_NO_VOLUME, STORE_UNAUTHENTICATED,
+    UNEDITED_BAD_KIND, UNEDITED_BAD_NUMBER, UNEDITED_BAD_POSITION, UNEDITED_MISSING,
+    UNEDITED_NO_FREE, UNEDITED_NO_OPTION, UNEDITED_OPTION_TOO_LONG, UNEDITED_ORDER_TOO_LONG,
+    UNEDITED_STALE, UNEDITED_TAKEN, UNEDITED_TWICE,
 };
 
 /// The word of a refusal of a change of a machine or of a set, or of what is kept of it.
@@ -28,6 +29,7 @@ pub(crate) fn word_of_change(kind: u32) -> Option<&'static str>
         14 => word_of_edit(kind),
         15 => word_of_notes(kind),
         16 => word_of_record(kind),
+        17 => word_of_store(kind),
         _ => None,
     }
 }
@@ -115,6 +117,23 @@ fn word_of_record(kind: u32) -> Option<&'static str>
         RECORD_BAD_WORD => Some("RecordBadWord"),
         RECORD_OPEN_WORD => Some("RecordOpenWord"),
         RECORD_TOO_LONG => Some("RecordTooLong"),
+        _ => None,
+    }
+}
+
+/// The word of a refusal of an emulator's variable file.
+fn word_of_store(kind: u32) -> Option<&'static str>
+    ensures word { option_map (λ word. word.now) result ≡ store_word kind }
+    ensures len { IfSome result (λ word. length word.now ≤ word_max) }
+{
+    match kind {
+        STORE_NO_VOLUME => Some("StoreNoVolume"),
+        STORE_BAD_HEADER => Some("StoreBadHeader"),
+        STORE_NO_STORE => Some("StoreNoStore"),
+        STORE_UNAUTHENTICATED => Some("StoreUnauthenticated"),
+        STORE_BAD_STORE => Some("StoreBadStore"),
+        STORE_CUT_RECORD => Some("StoreCutRecord"),
+        STORE_FULL => Some("StoreFull"),
         _ => None,
     }
 }

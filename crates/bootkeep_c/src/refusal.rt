@@ -414,6 +414,27 @@ pub const RECORD_OPEN_WORD: u32 = 0x1009;
 /// [`WriteFault::TooLong`](change_records::WriteFault::TooLong).
 pub const RECORD_TOO_LONG: u32 = 0x100A;
 
+/// The file doesn't begin with a firmware volume of variables.
+pub const STORE_NO_VOLUME: u32 = 0x1101;
+
+/// The header of the volume is damaged, or the file ends in the volume.
+pub const STORE_BAD_HEADER: u32 = 0x1102;
+
+/// No store of variables is in the volume.
+pub const STORE_NO_STORE: u32 = 0x1103;
+
+/// The store is of the older kind, whose records have no times.
+pub const STORE_UNAUTHENTICATED: u32 = 0x1104;
+
+/// The store isn't formatted or healthy, or ends after the volume.
+pub const STORE_BAD_STORE: u32 = 0x1105;
+
+/// The record at this place ends after the store.
+pub const STORE_CUT_RECORD: u32 = 0x1106;
+
+/// The store has no room for the records.
+pub const STORE_FULL: u32 = 0x1107;
+
 /// Why a call refuses: `struct bootkeep_refusal`.
 #[repr(C)]
 #[derive(Clone, Copy, Debug, PartialEq, Eq)]

@@ -542,7 +542,10 @@ struct bootkeep_refusal {
  * what the machine keeps.
  */
 #define BOOTKEEP_FAULT_MACHINE_NO_DATA 0x0d03
-/* In `fault` alone: with its attributes, what a variable would have after the run is longer than BOOTKEEP_DATA_MAX. */
+/*
+ * With its attributes, what a variable has in a variable file, or, in `fault`, what it would have after the run, is
+ * longer than BOOTKEEP_DATA_MAX.
+ */
 #define BOOTKEEP_FAULT_MACHINE_TOO_LONG 0x0d04
 
 /*
@@ -609,6 +612,25 @@ struct bootkeep_refusal {
 #define BOOTKEEP_FAULT_RECORD_OPEN_WORD 0x1009
 /* Of bootkeep_record_make alone: a word, or a set of the boot manager's variables, has 2^32 bytes or more. */
 #define BOOTKEEP_FAULT_RECORD_TOO_LONG 0x100a
+
+/*
+ * Of an emulator's variable file. Only BOOTKEEP_FAULT_STORE_CUT_RECORD has a place.
+ */
+
+/* The file doesn't begin with a firmware volume of variables. */
+#define BOOTKEEP_FAULT_STORE_NO_VOLUME 0x1101
+/* The header of the volume is damaged, or the file ends in the volume. */
+#define BOOTKEEP_FAULT_STORE_BAD_HEADER 0x1102
+/* No store of variables is in the volume. */
+#define BOOTKEEP_FAULT_STORE_NO_STORE 0x1103
+/* The store is of the older kind, whose records have no times. */
+#define BOOTKEEP_FAULT_STORE_UNAUTHENTICATED 0x1104
+/* The store isn't formatted or healthy, or ends after the volume. */
+#define BOOTKEEP_FAULT_STORE_BAD_STORE 0x1105
+/* The record at this place ends after the store. */
+#define BOOTKEEP_FAULT_STORE_CUT_RECORD 0x1106
+/* Of bootkeep_store_with alone: the store has no room for the records. */
+#define BOOTKEEP_FAULT_STORE_FULL 0x1107
 
 /* ---- Words ------------------------------------------------------------------------------------------------------ */
 
@@ -1825,6 +1847,41 @@ uint32_t bootkeep_record_standing(const uint8_t *record, size_t record_len, cons
  */
 uint32_t bootkeep_record_back(const uint8_t *record, size_t record_len, const uint8_t *variables, size_t variables_len,
                               uint8_t *out, size_t cap, size_t *len, struct bootkeep_refusal *refusal)
+    BOOTKEEP_CHECKED BOOTKEEP_NONNULL((7, 8));
+
+/* ---- Variable files --------------------------------------------------------------------------------------------- */
+
+/*
+ * An emulator's variable file, as edk2's OVMF keeps it, is all the bytes of the file, `file, file_len`. It is read and
+ * written while the machine is off: docs/machines.md has how.
+ */
+
+/*
+ * What the file has of the variables that the standard names (UEFI 2.10, 3.3), as a set of what a machine keeps: the
+ * data of Boot####, BootOrder, BootNext and Timeout comes after its attributes. It is `variables` of
+ * bootkeep_moves_requests. What no set can hold is left out.
+ *
+ *     file, file_len   all the bytes of the file, and how many there are
+ *
+ *     BOOTKEEP_DONE, BOOTKEEP_NO_ROOM, BOOTKEEP_NO_MEMORY
+ *     BOOTKEEP_REFUSED   a number of variable files; otherwise BOOTKEEP_FAULT_MACHINE_TOO_LONG
+ */
+uint32_t bootkeep_store_vars(const uint8_t *file, size_t file_len, uint8_t *out, size_t cap, size_t *len,
+                             struct bootkeep_refusal *refusal) BOOTKEEP_CHECKED BOOTKEEP_NONNULL((5, 6));
+
+/*
+ * The bytes of the file once its Boot####, BootOrder, BootNext and Timeout are those of a set of what a machine keeps:
+ * those that the set hasn't got are deleted, and all other variables stay, as do the records of those that are the
+ * same. A new record has the attributes of the set. The answer has as many bytes as the file.
+ *
+ *     file, file_len   all the bytes of the file, and how many there are
+ *
+ *     BOOTKEEP_DONE, BOOTKEEP_NO_ROOM, BOOTKEEP_NO_MEMORY
+ *     BOOTKEEP_REFUSED   a number of sets; otherwise BOOTKEEP_FAULT_MACHINE_NO_DATA; otherwise a number of
+ *                        variable files
+ */
+uint32_t bootkeep_store_with(const uint8_t *file, size_t file_len, const uint8_t *set, size_t set_len, uint8_t *out,
+                             size_t cap, size_t *len, struct bootkeep_refusal *refusal)
     BOOTKEEP_CHECKED BOOTKEEP_NONNULL((7, 8));
 
 /* ---- Images ------------------------------------------------------------------------------------------------------ */

@@ -193,6 +193,7 @@ from ._sets import (
     vars_put,
     vars_remove,
 )
+from ._stores import store_vars, store_with
 from ._values import EntryNumber, is_entry_name
 
 __all__ = [
@@ -326,6 +327,8 @@ __all__ = [
     "run",
     "signature_lists",
     "status_word",
+    "store_vars",
+    "store_with",
     "vars_at_risk",
     "vars_changes",
     "vars_edit",

@@ -226,6 +226,8 @@ _CALLS: Dict[str, Tuple[Any, ...]] = {
     "bootkeep_record_word": (*_IN, c_size_t, *_OUT, _WHY),
     "bootkeep_record_standing": (*_IN, *_IN, POINTER(c_uint32), _WHY),
     "bootkeep_record_back": (*_IN, *_IN, *_OUT, _WHY),
+    "bootkeep_store_vars": (*_IN, *_OUT, _WHY),
+    "bootkeep_store_with": (*_IN, *_IN, *_OUT, _WHY),
     "bootkeep_image_check": (*_IN, POINTER(c_uint32), POINTER(c_uint32), _WHY),
     "bootkeep_image_digest": (*_IN, *_OUT, _WHY),
     "bootkeep_signature_lists": (*_IN, POINTER(RawList), *_ROOM, _WHY),

@@ -369,6 +369,20 @@ class Fault(Numbers):
     RECORD_OPEN_WORD = 0x1009
     #: A word, or a set of the boot manager's variables, has 2^32 bytes or more.
     RECORD_TOO_LONG = 0x100A
+    #: The file doesn't begin with a firmware volume of variables.
+    STORE_NO_VOLUME = 0x1101
+    #: The header of the volume is damaged, or the file ends in the volume.
+    STORE_BAD_HEADER = 0x1102
+    #: No store of variables is in the volume.
+    STORE_NO_STORE = 0x1103
+    #: The store is of the older kind, whose records have no times.
+    STORE_UNAUTHENTICATED = 0x1104
+    #: The store isn't formatted or healthy, or ends after the volume.
+    STORE_BAD_STORE = 0x1105
+    #: The record at this place ends after the store.
+    STORE_CUT_RECORD = 0x1106
+    #: The store has no room for the records.
+    STORE_FULL = 0x1107
 
 
 class EditKind(IntEnum):

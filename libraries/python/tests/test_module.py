@@ -375,6 +375,46 @@ class Faults(unittest.TestCase):
         self.assertRegex(said.stderr, "ImportError: .*/nowhere/.*BOOTKEEP_LIBRARY")
 
 
+class VariableFiles(unittest.TestCase):
+    """Emulators' variable files."""
+
+    def setUp(self) -> None:
+        self.file = (ROOT / "docs/examples/vars.fd").read_bytes()
+        self.kept = bootkeep.store_vars(self.file)
+
+    def test_a_file_with_what_it_has_stays(self) -> None:
+        self.assertEqual(bootkeep.store_with(self.file, self.kept), self.file)
+
+    def test_a_file_has_the_variables_that_it_is_given(self) -> None:
+        option = bootkeep.option_make(1, "Mine", [PATH])
+        wanted = bootkeep.vars_put(b"BVS1", "Boot0007", b"\7\0\0\0" + option)
+        wanted = bootkeep.vars_put(wanted, "BootOrder", b"\7\0\0\0" + b"\7\0")
+        after = bootkeep.store_with(self.file, wanted)
+        self.assertEqual(len(after), len(self.file))
+        found = bootkeep.vars_list(bootkeep.store_vars(after))
+        is_ours = {name: data for name, data in found.items() if name.startswith("Boot0")}
+        self.assertEqual(is_ours, {"Boot0007": b"\7\0\0\0" + option})
+        self.assertEqual(found["BootOrder"], b"\7\0\0\0\7\0")
+
+    def test_what_is_no_such_file_or_set_is_refused(self) -> None:
+        for file, kind in (
+            (b"", Fault.STORE_NO_VOLUME),
+            (self.file[:-1], Fault.STORE_BAD_HEADER),
+        ):
+            with self.assertRaises(bootkeep.Refused) as caught:
+                bootkeep.store_vars(file)
+            self.assertEqual(caught.exception.kind, kind)
+        without_data = bootkeep.vars_put(b"BVS1", "BootNext", b"1234")
+        for file, wanted, kind in (
+            (b"", self.kept, Fault.STORE_NO_VOLUME),
+            (b"", b"", Fault.SET_BAD_MAGIC),
+            (self.file, without_data, Fault.MACHINE_NO_DATA),
+        ):
+            with self.assertRaises(bootkeep.Refused) as caught:
+                bootkeep.store_with(file, wanted)
+            self.assertEqual(caught.exception.kind, kind)
+
+
 class Keepers(unittest.TestCase):
     """Keepers, their replies, and their threads."""
 

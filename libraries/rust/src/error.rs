@@ -375,6 +375,20 @@ faults! {
     RecordOpenWord = 0x1009,
     /// A word, or a set of the boot manager's variables, has 2^32 bytes or more.
     RecordTooLong = 0x100a,
+    /// The file doesn't begin with a firmware volume of variables.
+    StoreNoVolume = 0x1101,
+    /// The header of the volume is damaged, or the file ends in the volume.
+    StoreBadHeader = 0x1102,
+    /// No store of variables is in the volume.
+    StoreNoStore = 0x1103,
+    /// The store is of the older kind, whose records have no times.
+    StoreUnauthenticated = 0x1104,
+    /// The store isn't formatted or healthy, or ends after the volume.
+    StoreBadStore = 0x1105,
+    /// The record at this place ends after the store.
+    StoreCutRecord = 0x1106,
+    /// The store has no room for the records.
+    StoreFull = 0x1107,
 }
 
 impl PartialEq for Fault {

@@ -72,6 +72,7 @@ mod numbers;
 pub mod option;
 pub mod path;
 pub mod record;
+pub mod store;
 pub mod vars;
 #[cfg(feature = "serde")]
 mod with_serde;

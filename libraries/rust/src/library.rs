@@ -248,6 +248,8 @@ extern "C" {
     fn bootkeep_record_word(record: *const u8, record_len: usize, number: usize, out: *mut u8, cap: usize, len: *mut usize, refusal: *mut RawRefusal) -> u32;
     fn bootkeep_record_standing(record: *const u8, record_len: usize, variables: *const u8, variables_len: usize, standing: *mut u32, refusal: *mut RawRefusal) -> u32;
     fn bootkeep_record_back(record: *const u8, record_len: usize, variables: *const u8, variables_len: usize, out: *mut u8, cap: usize, len: *mut usize, refusal: *mut RawRefusal) -> u32;
+    fn bootkeep_store_vars(file: *const u8, file_len: usize, out: *mut u8, cap: usize, len: *mut usize, refusal: *mut RawRefusal) -> u32;
+    fn bootkeep_store_with(file: *const u8, file_len: usize, set: *const u8, set_len: usize, out: *mut u8, cap: usize, len: *mut usize, refusal: *mut RawRefusal) -> u32;
     fn bootkeep_image_check(image: *const u8, image_len: usize, stage: *mut u32, effect: *mut u32, refusal: *mut RawRefusal) -> u32;
     fn bootkeep_image_digest(image: *const u8, image_len: usize, out: *mut u8, cap: usize, len: *mut usize, refusal: *mut RawRefusal) -> u32;
     fn bootkeep_signature_lists(bytes: *const u8, bytes_len: usize, lists: *mut RawList, cap: usize, item_size: usize, len: *mut usize, refusal: *mut RawRefusal) -> u32;
@@ -540,6 +542,27 @@ pub(crate) fn vars_named(set: &[u8]) -> Result<Vec<RawNamed>, Error> {
 }
 
 /// The first fault of an image, with the numbers of who finds it and of what comes of it.
+pub(crate) fn store_vars(file: &[u8]) -> Result<Vec<u8>, Error> {
+    given_alone(ROOM, |out, len, refusal| unsafe {
+        bootkeep_store_vars(file.as_ptr(), file.len(), out.as_mut_ptr(), out.len(), len, refusal)
+    })
+}
+
+pub(crate) fn store_with(file: &[u8], set: &[u8]) -> Result<Vec<u8>, Error> {
+    given_alone(file.len(), |out, len, refusal| unsafe {
+        bootkeep_store_with(
+            file.as_ptr(),
+            file.len(),
+            set.as_ptr(),
+            set.len(),
+            out.as_mut_ptr(),
+            out.len(),
+            len,
+            refusal,
+        )
+    })
+}
+
 pub(crate) fn image_check(image: &[u8]) -> Result<Option<(RawRefusal, u32, u32)>, Error> {
     let (mut stage, mut effect, mut refusal) = (0, 0, RawRefusal::default());
     let status = unsafe { bootkeep_image_check(image.as_ptr(), image.len(), &mut stage, &mut effect, &mut refusal) };

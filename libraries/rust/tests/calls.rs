@@ -3,7 +3,7 @@
 use bootkeep::frame::{self, Request};
 use bootkeep::image::{self, Effect, Stage};
 use bootkeep::vars::{BootVariable, ChangeKind, EntryState};
-use bootkeep::{option, path, vars, DevicePath, EntryNumber, Error, Fault, Keeper, LoadOption, Outcome, Reply};
+use bootkeep::{option, path, store, vars, DevicePath, EntryNumber, Error, Fault, Keeper, LoadOption, Outcome, Reply};
 use std::collections::HashSet;
 
 const SET: &[u8] = include_bytes!("../../../docs/examples/set");
@@ -220,6 +220,23 @@ fn a_file_has_its_letters() {
     let header = [4, 4, u8::try_from(4 + name.len()).unwrap(), 0];
     let path = [&header[..], &name, &[0x7f, 0xff, 4, 0]].concat();
     assert_eq!(path::names(&path).unwrap(), ("File(\\Größe.efi)".to_owned(), path.len()));
+}
+
+#[test]
+fn a_variable_file_has_what_it_is_given() {
+    let file = include_bytes!("../../../docs/examples/vars.fd");
+    let kept = store::vars(file).unwrap();
+    assert_eq!(store::with(file, &kept).unwrap(), file);
+    let wanted = vars::put(vars::EMPTY, "BootOrder", b"\x07\0\0\0\x01\0").unwrap();
+    let after = store::with(file, &wanted).unwrap();
+    let found = store::vars(&after).unwrap();
+    assert_eq!(vars::get(&found, "BootOrder").unwrap(), b"\x07\0\0\0\x01\0");
+    assert_eq!(vars::entries(&found).unwrap().len(), 0);
+    let no_data = vars::put(vars::EMPTY, "BootNext", b"1234").unwrap();
+    assert_eq!(store::vars(b""), Err(refused(Fault::StoreNoVolume)));
+    assert_eq!(store::with(b"", &kept), Err(refused(Fault::StoreNoVolume)));
+    assert_eq!(store::with(file, b""), Err(refused_at(Fault::SetBadMagic, 0)));
+    assert_eq!(store::with(file, &no_data), Err(refused(Fault::MachineNoData)));
 }
 
 #[test]
