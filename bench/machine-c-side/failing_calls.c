@@ -27,8 +27,8 @@
 static long counted;
 static int is_off;
 
-/* The function of this name behind this one. */
-static void *behind(const char *name)
+/* The function of this name that comes next, which is the C library's. */
+static void *next_function(const char *name)
 {
     void *found = dlsym(RTLD_NEXT, name);
 
@@ -37,7 +37,7 @@ static void *behind(const char *name)
     return found;
 }
 
-#define BEHIND(name) ((__typeof__(&name))behind(#name))
+#define NEXT(name) ((__typeof__(&name))next_function(#name))
 
 static void note(const char *name)
 {
@@ -47,11 +47,11 @@ static void note(const char *name)
 
     if (path == NULL)
         return;
-    file = BEHIND(open)(path, O_WRONLY | O_CREAT | O_APPEND, 0600);
+    file = NEXT(open)(path, O_WRONLY | O_CREAT | O_APPEND, 0600);
     len = snprintf(line, sizeof line, "%ld %s\n", counted, name);
-    if (file < 0 || BEHIND(write)(file, line, (size_t)len) != len)
+    if (file < 0 || NEXT(write)(file, line, (size_t)len) != len)
         abort();
-    BEHIND(close)(file);
+    NEXT(close)(file);
 }
 
 /* Whether this call fails, with errno set. The process may end here. */
@@ -83,25 +83,25 @@ int open(const char *path, int how, ...)
         mode = va_arg(more, mode_t);
         va_end(more);
     }
-    return fails("open") ? -1 : BEHIND(open)(path, how, mode);
+    return fails("open") ? -1 : NEXT(open)(path, how, mode);
 }
 
 ssize_t read(int file, void *at, size_t len)
 {
-    return fails("read") ? -1 : BEHIND(read)(file, at, len);
+    return fails("read") ? -1 : NEXT(read)(file, at, len);
 }
 
 ssize_t write(int file, const void *at, size_t len)
 {
     if (file <= 2)
-        return BEHIND(write)(file, at, len);
-    return fails("write") ? -1 : BEHIND(write)(file, at, len);
+        return NEXT(write)(file, at, len);
+    return fails("write") ? -1 : NEXT(write)(file, at, len);
 }
 
 #define FAILING(result, name, parameters, arguments)                                                                   \
     result name parameters                                                                                             \
     {                                                                                                                  \
-        return fails(#name) ? (result)FAILED : BEHIND(name) arguments;                                                 \
+        return fails(#name) ? (result)FAILED : NEXT(name) arguments;                                                   \
     }
 
 #define FAILED -1
@@ -122,7 +122,7 @@ FAILING(DIR *, opendir, (const char *path), (path))
 FAILING(char *, realpath, (const char *path, char *to), (path, to))
 FAILING(struct dirent *, readdir, (DIR * folder), (folder))
 
-/* What glibc has behind its requests for memory. */
+/* What glibc itself calls for its requests for memory. */
 extern void *__libc_malloc(size_t len);
 extern void *__libc_calloc(size_t count, size_t len);
 extern void *__libc_realloc(void *block, size_t len);
@@ -139,11 +139,11 @@ static int refuses(void)
     asked++;
     if (path != NULL) {
         is_off = 1;
-        int file = BEHIND(open)(path, O_WRONLY | O_CREAT | O_APPEND, 0600);
+        int file = NEXT(open)(path, O_WRONLY | O_CREAT | O_APPEND, 0600);
 
-        if (file < 0 || BEHIND(write)(file, "x", 1) != 1)
+        if (file < 0 || NEXT(write)(file, "x", 1) != 1)
             abort();
-        BEHIND(close)(file);
+        NEXT(close)(file);
         is_off = 0;
     }
     if (at == NULL || strtol(at, NULL, 10) != asked)

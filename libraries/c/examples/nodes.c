@@ -7,7 +7,7 @@
  * name of a file. */
 enum { HEADER = 4, OPTION_HEADER = 6, MEDIA = 4, FILE_PATH = 4 };
 
-/* A name is stored in the units of a description, with a zero behind them: so an option is made that has it as its own,
+/* A name is stored in the units of a description, with a zero after them: so an option is made that has it as its own,
  * and a path that ends at once. */
 uint32_t file_node(const char *name, uint8_t *node, size_t *len, struct bootkeep_refusal *why)
 {

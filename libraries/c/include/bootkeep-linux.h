@@ -305,7 +305,7 @@ void bootkeep_machine_close(struct bootkeep_machine *machine);
 
 /*
  * The words that are kept with each change from now on, which `bootvars undo --list` shows: the command line of the
- * program, say. Without this call there is one word, `libbootkeep-linux`, and the name of the call behind it. They are
+ * program, say. Without this call there is one word, `libbootkeep-linux`, and the name of the call after it. They are
  * copied.
  *
  *     words, count   the words, each UTF-8, and how many there are; none for the words that there are without this call
@@ -576,11 +576,11 @@ uint32_t bootkeep_machine_activate(struct bootkeep_machine *machine, const uint1
 uint32_t bootkeep_machine_deactivate(struct bootkeep_machine *machine, const uint16_t *numbers, size_t numbers_len,
                                      uint32_t flags, struct bootkeep_machine_change *change) BOOTKEEP_LINUX_CHECKED
     BOOTKEEP_LINUX_NONNULL((1));
-/* The entries come first in BootOrder, in this sequence, and the rest of it behind them. */
+/* The entries come first in BootOrder, in this sequence, and the rest of it after them. */
 uint32_t bootkeep_machine_first(struct bootkeep_machine *machine, const uint16_t *numbers, size_t numbers_len,
                                 uint32_t flags, struct bootkeep_machine_change *change) BOOTKEEP_LINUX_CHECKED
     BOOTKEEP_LINUX_NONNULL((1));
-/* BootOrder becomes these entries, and unless BOOTKEEP_MACHINE_ONLY is given those that it had behind them. */
+/* BootOrder becomes these entries, and unless BOOTKEEP_MACHINE_ONLY is given those that it had after them. */
 uint32_t bootkeep_machine_order(struct bootkeep_machine *machine, const uint16_t *numbers, size_t numbers_len,
                                 uint32_t flags, struct bootkeep_machine_change *change) BOOTKEEP_LINUX_CHECKED
     BOOTKEEP_LINUX_NONNULL((1));

@@ -1619,7 +1619,7 @@ uint32_t bootkeep_moves_close(struct bootkeep_moves *moves) BOOTKEEP_NONNULL((1)
 /*
  * In `*idle` whether a journal tells of nothing that is left to do: 1 if so, also if there is no such file, and 0 if a
  * command was cut off or couldn't take itself back, and bootkeep_moves_settle has something to do. Whose journal it is
- * isn't looked at. The bytes are those of the file behind its notes, which bootkeep_notes_len tells: with notes they
+ * isn't looked at. The bytes are those of the file after its notes, which bootkeep_notes_len tells: with notes they
  * are no journal.
  *
  *     idle   1 if nothing is left to do, and 0 if something is
@@ -1644,12 +1644,12 @@ uint32_t bootkeep_journal_is_idle(const uint8_t *journal, size_t journal_len, ui
  * move. bootkeep_moves_notes gives the notes after it then, and these are written before each journal that the command
  * replaces, when it is made. Commands of other kinds leave the notes as they are.
  *
- * A call that is handed notes takes the whole file that begins with them too: what is behind them isn't looked at.
+ * A call that is handed notes takes the whole file that begins with them too: what is after them isn't looked at.
  * Bytes that don't begin with the four bytes `BKJ3` have no notes.
  */
 
 /*
- * In `*taken` how many bytes of notes a journal's file begins with: 0 if it has none. The journal is behind them.
+ * In `*taken` how many bytes of notes a journal's file begins with: 0 if it has none. The journal is after them.
  *
  *     taken   how many of the bytes the notes take
  *

@@ -6,7 +6,7 @@
 #include <stdlib.h>
 #include <string.h>
 
-/* What a refusal of this library is in words, behind the path that it is about. */
+/* What a refusal of this library is in words, after the path that it is about. */
 static const char *const words_of_faults[] = {
     [BOOTKEEP_MACHINE_FAULT_SHARED_STATE - 0x8001] = "its group or others may write it",
     [BOOTKEEP_MACHINE_FAULT_FOREIGN_STATE - 0x8001] = "it belongs to another user than root and this one",

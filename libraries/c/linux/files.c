@@ -33,7 +33,7 @@ int try_lock(int folder)
     return 0;
 }
 
-/* Makes room for one piece more behind the bytes: false if memory is refused. */
+/* Makes room for one piece more after the bytes: false if memory is refused. */
 static bool make_room(struct bytes *bytes, size_t *room)
 {
     uint8_t *grown;

@@ -15,7 +15,7 @@
 #include <sys/stat.h>
 #include <unistd.h>
 
-/* The GUID of the standard's vendor (UEFI 2.10, 3.3), behind a hyphen, as a file that is new has it. */
+/* The GUID of the standard's vendor (UEFI 2.10, 3.3), after a hyphen, as a file that is new has it. */
 #define VENDOR "-8be4df61-93ca-11d2-aa0d-00e098032b8c"
 
 enum { VENDOR_LEN = sizeof VENDOR - 1 };

@@ -98,7 +98,7 @@ static bool is_named(struct bytes file)
     return memcmp(file.at, named_magic, MAGIC_LEN) == 0;
 }
 
-/* A journal that names this machine, with the rest of one behind its name: of none what a journal has at first. */
+/* A journal that names this machine, with the rest of one after its name: of none what a journal has at first. */
 static bool make_named(struct bytes *made, const char *name, const uint8_t *rest, size_t rest_len)
 {
     static const uint8_t no_state[NUMBER_LEN] = {0};
@@ -267,9 +267,9 @@ uint32_t journal_begin_notes(struct bootkeep_machine *machine, const struct iden
 
 const uint8_t *journal_end_of_name(struct bytes file)
 {
-    const uint8_t *behind = file.at + MAGIC_LEN;
+    const uint8_t *rest = file.at + MAGIC_LEN;
 
-    return is_named(file) ? behind + NUMBER_LEN + number_at(behind) : behind;
+    return is_named(file) ? rest + NUMBER_LEN + number_at(rest) : rest;
 }
 
 const uint8_t *journal_state(struct bytes file, size_t *len)

@@ -62,7 +62,7 @@ static bool below(const struct seeker *seeker, const char *path, char whole[PATH
 
 /* ---- What /sys tells --------------------------------------------------------------------------------------------- */
 
-/* The text of a file in a folder of /sys, with a zero behind it: 0, or a number of errno. */
+/* The text of a file in a folder of /sys, with a zero after it: 0, or a number of errno. */
 static int read_sys(const char *folder, const char *name, struct bytes *text)
 {
     struct bytes bytes, end = {(uint8_t *)"", 1};
@@ -100,13 +100,13 @@ static int read_number(const char *folder, const char *name, uint64_t *number)
 static bool read_uevent(const char *folder, const char *key, char *value, size_t room)
 {
     const size_t len = strlen(key);
-    char *line, *behind = NULL;
+    char *line, *rest = NULL;
     struct bytes text;
     bool found = false;
 
     if (read_sys(folder, "uevent", &text) != 0)
         return false;
-    for (line = strtok_r((char *)text.at, "\n", &behind); line != NULL && !found; line = strtok_r(NULL, "\n", &behind))
+    for (line = strtok_r((char *)text.at, "\n", &rest); line != NULL && !found; line = strtok_r(NULL, "\n", &rest))
         if (strncmp(line, key, len) == 0 && line[len] == '=')
             found = snprintf(value, room, "%s", line + len + 1) < (int)room;
     bytes_free(&text);
@@ -360,7 +360,7 @@ static bool are_own(const struct seeker *seeker, const char *mounts)
     return are;
 }
 
-/* What a path has behind the root, as the mounts have it, or NULL. */
+/* What a path has after the root, as the mounts have it, or NULL. */
 static const char *behind_root(const struct seeker *seeker, const char *whole)
 {
     char *root = realpath(seeker->root, NULL);

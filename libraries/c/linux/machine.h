@@ -21,9 +21,9 @@
 #define ATTRIBUTES_LEN ((size_t)4)
 /* The most bytes of the file of a variable that a set can hold. */
 #define VARIABLE_MAX (ATTRIBUTES_LEN + BOOTKEEP_DATA_MAX)
-/* Room for the longest name of a variable of the boot manager, `BootOrder`, and the zero behind it. */
+/* Room for the longest name of a variable of the boot manager, `BootOrder`, and the zero after it. */
 #define BOOT_NAME_ROOM 10
-/* Room for the identity of a start, and the zero behind it. */
+/* Room for the identity of a start, and the zero after it. */
 #define START_ROOM 65
 
 /* Bytes that are owned, and given up by bytes_free. No bytes are {0}. */
@@ -180,7 +180,7 @@ bool is_entry_name(const char *name, size_t len, uint32_t *number);
 /* Whether this is the name of an entry, BootOrder, BootNext or Timeout. */
 bool is_boot_name(const char *name, size_t len);
 bool is_utf8(const char *text, size_t len);
-/* The name of an entry, with a zero behind it. */
+/* The name of an entry, with a zero after it. */
 void entry_name(char name[BOOT_NAME_ROOM], uint32_t number);
 
 /* ---- sets.c: sets of variables --------------------------------------------------------------------------------- */
@@ -305,7 +305,7 @@ int leading_mount(const char *mounts, const char *path, struct mount *mount);
 /* ---- journal.c: the journal -------------------------------------------------------------------------------------- */
 
 struct journal {
-    /* All that is behind the notes, or nothing if there is no file. */
+    /* All that is after the notes, or nothing if there is no file. */
     struct bytes file;
     /* The notes before it, or nothing. */
     struct bytes notes;
@@ -320,16 +320,16 @@ uint32_t journal_own(struct bootkeep_machine *machine, const struct identity *id
 /* Gives it notes with a new identity, if it has none and the system draws one. */
 uint32_t journal_begin_notes(struct bootkeep_machine *machine, const struct identity *identity,
                              struct journal *journal);
-/* Replaces its file by these bytes, behind the notes: false with `why` if that can't be. */
+/* Replaces its file by these bytes, after the notes: false with `why` if that can't be. */
 bool journal_replace(const struct bootkeep_machine *machine, struct bytes notes, struct bytes file, struct reason *why);
-/* Whether its file has these bytes behind the notes, or that can't be told. */
+/* Whether its file has these bytes after the notes, or that can't be told. */
 bool journal_may_have(const struct bootkeep_machine *machine, struct bytes notes, struct bytes file);
 void journal_free(struct journal *journal);
 /* The number of the next request, of a journal that has nothing left to do. */
 uint32_t journal_next_number(struct bytes file, uint32_t *number);
 /* Where BootKeepState is in the journal's file, which may be empty: NULL if there is none. */
 const uint8_t *journal_state(struct bytes file, size_t *len);
-/* What comes behind the name of the machine in a journal's file, which isn't empty. */
+/* What comes after the name of the machine in a journal's file, which isn't empty. */
 const uint8_t *journal_end_of_name(struct bytes file);
 
 /* ---- moves.c: moves, in memory and for real ---------------------------------------------------------------------- */
@@ -351,7 +351,7 @@ struct session {
     int place_lock;
     struct identity identity;
     struct variables variables;
-    /* What is there now: `store.journal` is the journal's file behind its notes. */
+    /* What is there now: `store.journal` is the journal's file after its notes. */
     struct store store;
     struct bytes notes;
     /* Whether the journal had notes before this call. */

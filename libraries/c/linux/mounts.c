@@ -41,7 +41,7 @@ static bool unescape(const char *field, size_t len, char *text, size_t room)
     return true;
 }
 
-/* The field at the start of a line, up to the blank behind it, and the rest behind that; NULL if no blank is there. */
+/* The field at the start of a line, up to the blank after it, and the rest after that; NULL if no blank is there. */
 static const char *cut_field(const char **rest, size_t *len)
 {
     const char *field = *rest, *blank = strchr(field, ' ');
@@ -78,7 +78,7 @@ static bool read_mount(const char *line, struct mount *mount)
            unescape(kind, kind_len, mount->kind, sizeof mount->kind);
 }
 
-/* Whether the path is the mount point's, or has it in front and a slash behind it. */
+/* Whether the path is the mount point's, or has it in front and a slash after it. */
 static bool leads_to(const char *point, const char *path)
 {
     size_t len = strcmp(point, "/") == 0 ? 0 : strlen(point);
@@ -90,12 +90,12 @@ static bool leads_to(const char *point, const char *path)
 static int find_leading(char *text, const char *path, struct mount *mount)
 {
     struct mount *read = malloc(sizeof *read);
-    char *line, *behind = NULL;
+    char *line, *rest = NULL;
     bool is_found = false;
 
     if (read == NULL)
         return ENOMEM;
-    for (line = strtok_r(text, "\n", &behind); line != NULL; line = strtok_r(NULL, "\n", &behind)) {
+    for (line = strtok_r(text, "\n", &rest); line != NULL; line = strtok_r(NULL, "\n", &rest)) {
         if (!read_mount(line, read) || !leads_to(read->point, path))
             continue;
         if (is_found && strlen(mount->point) > strlen(read->point))

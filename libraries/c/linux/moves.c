@@ -28,7 +28,7 @@ bool store_copy(struct store *copy, const struct store *store)
 struct move {
     uint32_t kind;
     char name[BOOT_NAME_ROOM];
-    /* What the variable is to have, or all of the journal behind the notes. */
+    /* What the variable is to have, or all of the journal after the notes. */
     struct bytes bytes;
 };
 

@@ -105,8 +105,8 @@ uint32_t pending_tell(struct session *session)
 {
     size_t state_len;
     const uint8_t *state = journal_state(session->store.journal, &state_len);
-    const uint8_t *behind = state == NULL ? journal_end_of_name(session->store.journal) + 4 : state + state_len;
-    struct reader reader = {behind, session->store.journal.len - (size_t)(behind - session->store.journal.at)};
+    const uint8_t *rest = state == NULL ? journal_end_of_name(session->store.journal) + 4 : state + state_len;
+    struct reader reader = {rest, session->store.journal.len - (size_t)(rest - session->store.journal.at)};
     const uint8_t *course = take(&reader, 1);
     struct left_change change;
     struct bytes was;

@@ -188,7 +188,7 @@ static uint32_t tell_end(struct session *session, const struct bootkeep_moves_en
     }
 }
 
-/* Tells what a command came to that was made for real, and to which memory was refused between two moves, or behind
+/* Tells what a command came to that was made for real, and to which memory was refused between two moves, or after
  * all. */
 static uint32_t tell_without_memory(struct session *session)
 {

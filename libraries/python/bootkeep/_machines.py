@@ -374,7 +374,7 @@ class Machine(Owned):
         dry_run: bool = False,
         words: Optional[Words] = None,
     ) -> MachineChange:
-        """Makes these entries BootOrder, and unless they are to be the ``only`` ones those behind them that it had. If it may
+        """Makes these entries BootOrder, and unless they are to be the ``only`` ones those after them that it had. If it may
         be ``stale``, a number needs no entry."""
         call, flags = (
             self._library.bootkeep_machine_order,

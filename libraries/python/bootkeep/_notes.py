@@ -12,7 +12,7 @@ from ._numbers import ABSENT, DONE, IDENTITY_LEN, NOTES_MAX
 
 
 def journal_is_idle(journal: Bytes) -> bool:
-    """Whether a journal, the bytes of its file behind its notes, tells of nothing that is left to do; so it is without such
+    """Whether a journal, the bytes of its file after its notes, tells of nothing that is left to do; so it is without such
     a file, of no bytes. ``Refused`` has a kind ``JOURNAL_..``."""
     refusal, given = RawRefusal(), bytes_in(journal)
     idle = number_of(

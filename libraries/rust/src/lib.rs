@@ -108,7 +108,7 @@ pub fn run(set: &[u8], stream: &[u8]) -> Result<(Vec<u8>, String), Error> {
     Ok((after, ascii(lines)))
 }
 
-/// Whether a journal, the bytes of its file behind its notes, tells of nothing that is left to do; so it is without such a
+/// Whether a journal, the bytes of its file after its notes, tells of nothing that is left to do; so it is without such a
 /// file, of no bytes.
 ///
 /// # Errors

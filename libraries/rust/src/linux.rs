@@ -272,7 +272,7 @@ pub(crate) struct Handle(ptr::NonNull<RawMachine>);
 unsafe impl Send for Handle {}
 
 // In each call below, every pointer is to a value, a slice or a text that lives until the call returns, and the number
-// behind it is how long that is. What a call tells by a pointer is the handle's until the next call with it, so it is
+// after it is how long that is. What a call tells by a pointer is the handle's until the next call with it, so it is
 // copied before that: none but those that leave it alone, of the fault, the remarks and the replies, come in between.
 
 /// The version of the interface that the library has.

@@ -6,7 +6,7 @@ use crate::error::Error;
 use crate::library;
 use crate::numbers::IDENTITY_LEN;
 
-/// How many bytes of notes a journal's file begins with: 0 if it has none. The journal is behind them.
+/// How many bytes of notes a journal's file begins with: 0 if it has none. The journal is after them.
 ///
 /// # Errors
 ///
