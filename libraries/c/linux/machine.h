@@ -7,8 +7,6 @@
 #define _GNU_SOURCE
 #endif
 
-#include "calls.h"
-
 #include <bootkeep-linux.h>
 
 #include <limits.h>
