@@ -26,7 +26,7 @@ LAYERS = (
     Layer(
         "Requests and journal",
         "numbered changes, and changes that are cut off",
-        ("boot_requests", "request_preconditions", "boot_notes", "boot_journal"),
+        ("boot_requests", "request_preconditions", "boot_notes", "machine_names", "boot_journal"),
     ),
     Layer(
         "Changes as a whole",
@@ -66,8 +66,8 @@ COVERS = (
         (
             *("uefi_path", "uefi_text", "uefi_names", "partitions", "efi_images", "uefi_option"),
             *("uefi_vars", "var_stores", "entry_checks", "boot_requests", "boot_notes"),
-            *("boot_journal", "change_records", "journaled_requests", "boot_moves", "boot_edits"),
-            *("boot_profiles", "boot_trials", "efibootmgr_words", "bootkeep_c"),
+            *("machine_names", "boot_journal", "change_records", "journaled_requests", "boot_moves"),
+            *("boot_edits", "boot_profiles", "boot_trials", "efibootmgr_words", "bootkeep_c"),
         ),
     ),
     Cover(

@@ -1,7 +1,6 @@
 //! Runs of edits over a machine's variables.
 
 ghost use Rattle.std.specs.Prelude.{◌≡◌, ◌≢◌, IfOk, IfErr};
-ghost use Rattle.boot_journal.specs.Attributes.{data_of, with_attributes, HasNoData, HasLongData};
 ghost use Rattle.boot_journal.specs.Cause.{IfRefused};
 ghost use Rattle.boot_edits.specs.declared.fault.EditFault.{EditFault};
 ghost use Rattle.boot_edits.specs.Edit.{IsEdited};
@@ -10,7 +9,7 @@ ghost use Rattle.boot_edits.specs.Run.{IsEditRefusal};
 use crate::answer::EditAnswer;
 use crate::edit::{Edit, make_edit};
 use crate::fault::EditFault;
-use boot_journal::{AttributesFault, CallError, Run, with_attributes, without_attributes};
+use boot_journal::{CallError, Run, with_attributes_or, without_attributes_or};
 use std::alloc::{AllocError, Global};
 use thiserror::Error;
 use uefi_vars::Vars;
@@ -75,36 +74,10 @@ impl Run for EditRun<'_> {
         alloc: Global,
         vars: &Vars,
     ) -> Result<(Vars, EditAnswer), CallError<EditRunFault>> {
-        let set = without(alloc, vars)?;
+        let set = without_attributes_or(alloc, vars, EditRunFault::NoData)?;
         let (edited, answer) = edited(alloc, &set, &self.edit)?;
-        let to = with(alloc, &edited, vars)?;
+        let to = with_attributes_or(alloc, &edited, vars, EditRunFault::TooLong)?;
         Ok((to, answer))
-    }
-}
-
-/// The variables without their attributes.
-fn without(alloc: Global, vars: &Vars) -> Result<Vars, CallError<EditRunFault>>
-    ensures set { IfOk result (λ set. set ≡ data_of vars.now) }
-    ensures refused { IfErr result (λ error. IfRefused error (λ reason.
-        (reason ≡ EditRunFault.NoData) × HasNoData vars.now)) }
-{
-    match without_attributes(alloc, vars) {
-        Ok(set) => Ok(set),
-        Err(AttributesFault::NoData) => Err(CallError::Refused(EditRunFault::NoData)),
-        Err(_) => Err(CallError::OutOfMemory),
-    }
-}
-
-/// The variables with the attributes of those that are there.
-fn with(alloc: Global, vars: &Vars, there: &Vars) -> Result<Vars, CallError<EditRunFault>>
-    ensures kept { IfOk result (λ kept. kept ≡ with_attributes there.now vars.now) }
-    ensures refused { IfErr result (λ error. IfRefused error (λ reason.
-        (reason ≡ EditRunFault.TooLong) × HasLongData vars.now)) }
-{
-    match with_attributes(alloc, vars, there) {
-        Ok(kept) => Ok(kept),
-        Err(AttributesFault::TooLong) => Err(CallError::Refused(EditRunFault::TooLong)),
-        Err(_) => Err(CallError::OutOfMemory),
     }
 }
 

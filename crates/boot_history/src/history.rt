@@ -7,10 +7,10 @@ ghost use Rattle.boot_history.specs.Counted.{counted};
 use crate::folder::{file_path, history_path, make_history};
 use crate::numbers::{next_number, numbers_of, oldest};
 use crate::written::Written;
-use boot_journal::MachineName;
 use change_records::{
     HEAD_MAX, Owner, Record, RecordFault, Standing, owner_of, read_record, standing_of,
 };
+use machine_names::MachineName;
 use messages::{Failure, Reason};
 use std::alloc::Global;
 use std::fs;

@@ -18,7 +18,7 @@ use Rattle.uefi_vars.proofs.Faults.{four_state}
 use Rattle.uefi_vars.specs.BootChange.{is_boot_name}
 use Rattle.boot_journal.specs.declared.fault.JournalFault.{JournalFault}
 use Rattle.boot_journal.specs.declared.fault.JournalFault.TheVariants as fault
-use Rattle.boot_journal.specs.MachineName.{machine_name_max, IsMachineName}
+use Rattle.machine_names.specs.MachineName.{machine_name_max, IsMachineName}
 use Rattle.boot_journal.specs.Bytes.{contents, value_bytes}
 use Rattle.boot_journal.specs.Fault.{HasBadMachineLength, IsCutMachine, IsMachineFault, IsCutValue, HasLongValue, HasCutIdentity, HasBadIdentityLength}
 use Rattle.boot_journal.specs.Fault.{HasBadCharacter, HasCutName, HasBadName}

@@ -21,7 +21,7 @@ use Rattle.boot_journal.specs.declared.journal_file.JournalFile.{JournalFile}
 use Rattle.boot_journal.specs.Journal.{JournalParts, PendingParts, Makes, TakesBack}
 use Rattle.boot_journal.specs.JournalValue.{IsPending, IsJournal}
 use Rattle.boot_journal.specs.Values.{IsBootChange}
-use Rattle.boot_journal.specs.MachineName.{IsMachineName}
+use Rattle.machine_names.specs.MachineName.{IsMachineName}
 use Rattle.boot_journal.specs.Bytes.{magic_1, magic_2, making, taking_back, value_bytes, change_bytes, changes_bytes, pending_bytes, body_bytes, head_bytes}
 use Rattle.boot_journal.specs.Bytes.{file_bytes, IsJournalFile}
 use Rattle.boot_journal.specs.Fault.{HasNoMagic, IsMachineFault, HasMachineFault, Field, State, Identity, Former, Name, Before, After, IsBegunJournal}

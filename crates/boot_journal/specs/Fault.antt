@@ -10,7 +10,7 @@ use Rattle.boot_journal.specs.declared.fault.JournalFault.{JournalFault}
 use Rattle.boot_journal.specs.declared.fault.JournalFault.TheVariants as fault
 use Rattle.boot_journal.specs.Journal.{JournalParts}
 use Rattle.boot_journal.specs.JournalValue.{IsJournal}
-use Rattle.boot_journal.specs.MachineName.{machine_name_max, IsMachineName}
+use Rattle.machine_names.specs.MachineName.{machine_name_max, IsMachineName}
 use Rattle.boot_journal.specs.Bytes.{magic_1, magic_2, making, taking_back, value_bytes, body_bytes, head_bytes}
 
 -- neither magic is at the start

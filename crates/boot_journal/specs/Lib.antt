@@ -15,7 +15,6 @@ pub mod Asked
 pub mod Recorded
 pub mod RecordedValue
 pub mod JournalAttributes
-pub mod MachineName
 pub mod Bytes
 pub mod Fault
 pub mod Words

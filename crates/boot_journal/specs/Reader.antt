@@ -11,7 +11,7 @@ use Rattle.boot_journal.specs.declared.fault.JournalFault.{JournalFault}
 use Rattle.boot_journal.specs.declared.fault.JournalFault.TheVariants as fault
 use Rattle.boot_journal.specs.declared.journal_file.JournalFile.{JournalFile}
 use Rattle.boot_journal.specs.Journal.{JournalParts, PendingParts, Makes, TakesBack}
-use Rattle.boot_journal.specs.MachineName.{machine_name_max}
+use Rattle.machine_names.specs.MachineName.{machine_name_max}
 use Rattle.boot_journal.specs.Bytes.{magic_1, magic_2, making, taking_back, of_machine}
 
 infixl 10 ◌>>=◌

@@ -5,9 +5,11 @@ ghost use Rattle.std.specs.FinMap as map;
 ghost use Rattle.std.specs.Option.{option_map};
 ghost use Rattle.uefi_vars.specs.Name.{IsName};
 ghost use Rattle.uefi_vars.specs.Attributes.{attributes_len};
-ghost use Rattle.boot_journal.specs.Attributes.{attributes_in, data_of, with_attributes, IsFaultWithout, IsFaultWith, IsFaultOf};
+ghost use Rattle.boot_journal.specs.Attributes.{attributes_in, data_of, with_attributes, HasNoData, HasLongData, IsFaultWithout, IsFaultWith, IsFaultOf};
+ghost use Rattle.boot_journal.specs.Cause.{IfRefused};
 ghost use Rattle.boot_journal.specs.declared.attributes.AttributesFault.TheVariants as fault;
 
+use crate::machine::CallError;
 use std::alloc::{AllocError, AllocFailed, Global};
 use thiserror::Error;
 use uefi_vars::{ATTRIBUTES_LEN, BOOT_ATTRIBUTES, PutFault, Vars, is_boot_name, laws as vars_laws};
@@ -102,6 +104,49 @@ pub fn without_attributes(alloc: Global, vars: &Vars) -> Result<Vars, Attributes
         }
     }
     Ok(set)
+}
+
+/// What a machine is to keep of a set, as by [`with_attributes`].
+///
+/// # Errors
+///
+/// [`CallError::Refused`] with this fault if the data of a variable of the boot manager is too long together with its
+/// attributes, and [`CallError::OutOfMemory`] if memory was refused.
+pub fn with_attributes_or<F: Drop>(
+    alloc: Global,
+    vars: &Vars,
+    there: &Vars,
+    too_long: F,
+) -> Result<Vars, CallError<F>>
+    ensures kept { IfOk result (λ kept. kept ≡ with_attributes there.now vars.now) }
+    ensures refused { IfErr result (λ error. IfRefused error (λ fault. (fault ≡ too_long) × HasLongData vars.now)) }
+{
+    match with_attributes(alloc, vars, there) {
+        Ok(kept) => Ok(kept),
+        Err(AttributesFault::TooLong) => Err(CallError::Refused(too_long)),
+        Err(_) => Err(CallError::OutOfMemory),
+    }
+}
+
+/// The set of what a machine keeps, as by [`without_attributes`].
+///
+/// # Errors
+///
+/// [`CallError::Refused`] with this fault if a variable of the boot manager has no byte after its attributes, and
+/// [`CallError::OutOfMemory`] if memory was refused.
+pub fn without_attributes_or<F: Drop>(
+    alloc: Global,
+    vars: &Vars,
+    no_data: F,
+) -> Result<Vars, CallError<F>>
+    ensures set { IfOk result (λ set. set ≡ data_of vars.now) }
+    ensures refused { IfErr result (λ error. IfRefused error (λ fault. (fault ≡ no_data) × HasNoData vars.now)) }
+{
+    match without_attributes(alloc, vars) {
+        Ok(set) => Ok(set),
+        Err(AttributesFault::NoData) => Err(CallError::Refused(no_data)),
+        Err(_) => Err(CallError::OutOfMemory),
+    }
 }
 
 /// The attributes of what is there, and then this value.

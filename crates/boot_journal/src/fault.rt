@@ -16,7 +16,7 @@ pub enum JournalFault {
     #[error("BadMagic")]
     BadMagic,
     /// The name of the machine that begins at this place, with the four bytes of its length, is to have no byte or more than
-    /// [`MACHINE_NAME_MAX`](crate::MACHINE_NAME_MAX).
+    /// [`MACHINE_NAME_MAX`](machine_names::MACHINE_NAME_MAX).
     #[error("BadMachine {0}")]
     BadMachine(usize),
     /// The file ends in the field that begins at this place. A value and the name of the machine begin with the four bytes

@@ -1,7 +1,7 @@
 //! What the file of a journal has.
 
 use crate::journal::Journal;
-use crate::machine_name::MachineName;
+use machine_names::MachineName;
 
 /// What the file of a journal has: the journal, and the name of the machine that it is of.
 #[derive(Debug, Drop)]

@@ -18,13 +18,11 @@ ghost use Rattle.boot_journal.specs.Turns.{after_turns, happened, StartsAreNew};
 ghost use Rattle.boot_journal.specs.declared.attributes.AttributesFault.{AttributesFault};
 ghost use Rattle.boot_journal.specs.declared.fault.JournalFault.{JournalFault};
 ghost use Rattle.boot_journal.specs.declared.journal_file.JournalFile.{JournalFile};
-ghost use Rattle.boot_journal.specs.MachineName.{machine_name_max};
 ghost use Rattle.boot_journal.specs.Bytes.{IsJournalFile, SpellsJournalFile};
 ghost use Rattle.boot_journal.specs.Fault.{IsJournalFault};
 
 use crate::attributes::AttributesFault;
 use crate::fault::JournalFault;
-use crate::machine_name::MACHINE_NAME_MAX;
 use uefi_vars::laws as vars_laws;
 
 /// All or nothing. Over every list of updates and settlings that are cut off after any number of moves, of updates that
@@ -121,11 +119,6 @@ pub fn attributes_and_data_are_what_is_kept()
     ensures set { (there vars : Variables) → data_of (with_attributes there vars) ≡ vars }
     ensures attributes { (there vars : Variables) → KeepAttributes there (with_attributes there vars) }
     ensures kept { (vars : Variables) → HaveAttributes vars → with_attributes vars (data_of vars) ≡ vars }
-{}
-
-/// The public constant is what the definitions state.
-pub fn constants_are_those_of_the_definitions()
-    ensures machine_name_max { MACHINE_NAME_MAX ≡ machine_name_max }
 {}
 
 /// `==` on the faults of attributes tells whether they are equal.

@@ -5,7 +5,7 @@
 //! its variables: [`update`] first writes there what it is about to change, and [`settle`] does what a journal is left with,
 //! or takes it back if the machine refuses a move. [`command`] settles, runs something over the variables, a [`Run`], and
 //! updates. [`Recorded`] makes a machine of a [`Storage`]. [`read_journal`] reads a journal, and the
-//! [`MachineName`] of the machine that it is of, from the bytes of a file, all of them, and [`write_journal`] writes them.
+//! [`MachineName`](machine_names::MachineName) of the machine that it is of, from the bytes of a file, all of them, and [`write_journal`] writes them.
 //!
 //! What a machine keeps under the name of a variable of the boot manager, Boot####, BootOrder, BootNext or Timeout, is the
 //! variable's attributes, in [`ATTRIBUTES_LEN`](uefi_vars::ATTRIBUTES_LEN) bytes, and then its data, as a file of Linux's
@@ -23,14 +23,15 @@ mod journal;
 mod journal_file;
 pub mod laws;
 mod machine;
-mod machine_name;
 mod reader;
 mod recorded;
 mod updating;
 mod work;
 mod writer;
 
-pub use attributes::{AttributesFault, with_attributes, without_attributes};
+pub use attributes::{
+    AttributesFault, with_attributes, with_attributes_or, without_attributes, without_attributes_or,
+};
 pub use boot_id::BootId;
 pub use change::Change;
 pub use commanding::{Run, command};
@@ -38,7 +39,6 @@ pub use fault::JournalFault;
 pub use journal::Journal;
 pub use journal_file::JournalFile;
 pub use machine::{CallError, CommandError, Machine, UpdateError};
-pub use machine_name::{MACHINE_NAME_MAX, MachineName};
 pub use reader::read_journal;
 pub use recorded::{Recorded, Storage};
 pub use updating::{settle, update};

@@ -10,7 +10,7 @@ ghost use Rattle.uefi_vars.specs.BootChange.{is_boot_name};
 ghost use Rattle.boot_journal.specs.declared.fault.JournalFault.{JournalFault};
 ghost use Rattle.boot_journal.specs.declared.journal_file.JournalFile.{JournalFile};
 ghost use Rattle.boot_journal.specs.JournalValue.{pending_of, IsPending};
-ghost use Rattle.boot_journal.specs.MachineName.{IsMachineName};
+ghost use Rattle.machine_names.specs.MachineName.{IsMachineName};
 ghost use Rattle.boot_journal.specs.Values.{IsBootChange};
 ghost use Rattle.boot_journal.specs.Bytes.{SpellsJournalFile};
 ghost use Rattle.boot_journal.specs.Fault.{HasNoMagic, IsJournalFault};
@@ -21,9 +21,9 @@ use crate::change::{Change, copied};
 use crate::fault::JournalFault;
 use crate::journal::{Course, Journal, Pending};
 use crate::journal_file::JournalFile;
-use crate::machine_name::{MACHINE_NAME_MAX, MachineName};
 use crate::writer::{MAGIC_1, MAGIC_2, MAKING, TAKING_BACK};
-use std::alloc::Global;
+use machine_names::{MACHINE_NAME_MAX, MachineName};
+use std::alloc::{AllocError, Global};
 use uefi_vars::{DATA_MAX, NAME_MAX, is_boot_name, laws as vars_laws};
 
 /// The place of the bytes with which a file of this length ends.
@@ -255,13 +255,24 @@ fn read_unnamed(alloc: Global, end: usize, bytes: &[u8]) -> Result<JournalFile, 
     })
 }
 
+/// The name of these bytes. This fails only if memory is refused.
+fn machine_of(alloc: Global, name: &[u8]) -> Result<MachineName, AllocError>
+    requires { IsMachineName name.now }
+    ensures { IfOk result (λ machine. machine ≡ name.now) }
+{
+    match MachineName::new(Vec::from_slice(alloc, name)?) {
+        Some(machine) => Ok(machine),
+        None => unreachable!(),
+    }
+}
+
 /// What follows the magic of version 2 in a file of this length.
 #[tactic(auto, unfolding(crate::specs::Reader::named_at))]
 fn read_named(alloc: Global, end: usize, bytes: &[u8]) -> Result<JournalFile, JournalFault>
     ensures { Gives (λ file. file) result (named_at end bytes.now) }
 {
     let (name, behind) = split_machine(end, bytes)?;
-    let machine = MachineName::from_slice(alloc, name)?;
+    let machine = machine_of(alloc, name)?;
     let journal = read_parts(alloc, end, behind)?;
     Ok(JournalFile {
         machine: Some(machine),

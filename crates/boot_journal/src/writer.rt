@@ -11,7 +11,7 @@ ghost use Rattle.boot_journal.specs.JournalValue.{IsJournal, pending_of, IsPendi
 use crate::boot_id::BootId;
 use crate::change::Change;
 use crate::journal::{Course, Journal, Pending};
-use crate::machine_name::MachineName;
+use machine_names::MachineName;
 use std::alloc::{AllocError, Global};
 use uefi_vars::laws as vars_laws;
 

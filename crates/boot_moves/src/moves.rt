@@ -9,7 +9,8 @@ ghost use Rattle.boot_moves.specs.Parts.{told_of};
 
 use crate::dialogue::{Dialogue, Next};
 use crate::parts::{Answer, Move};
-use boot_journal::{BootId, Journal, MachineName, Run};
+use boot_journal::{BootId, Journal, Run};
+use machine_names::MachineName;
 use std::alloc::{AllocError, Global};
 use std::marker::Model;
 use uefi_vars::Vars;

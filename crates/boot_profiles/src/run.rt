@@ -1,7 +1,6 @@
 //! Runs of profiles over a machine's variables.
 
 ghost use Rattle.std.specs.Prelude.{◌≡◌, IfOk, IfErr};
-ghost use Rattle.boot_journal.specs.Attributes.{data_of, with_attributes, HasNoData, HasLongData};
 ghost use Rattle.boot_journal.specs.Cause.{IfRefused};
 ghost use Rattle.boot_profiles.specs.Applied.{IsApplied};
 ghost use Rattle.boot_profiles.specs.Run.{IsRefusal};
@@ -10,7 +9,7 @@ ghost use Rattle.boot_profiles.specs.declared.run.ProfileRunFault.TheVariants as
 use crate::applying::apply;
 use crate::fault::ProfileFault;
 use crate::profile::Profile;
-use boot_journal::{AttributesFault, CallError, Run, with_attributes, without_attributes};
+use boot_journal::{CallError, Run, with_attributes_or, without_attributes_or};
 use std::alloc::Global;
 use thiserror::Error;
 use uefi_vars::Vars;
@@ -52,34 +51,10 @@ impl Run for ProfileRun<'_> {
     /// again: a variable that is replaced has those that it had, and a new one has
     /// [`BOOT_ATTRIBUTES`](uefi_vars::BOOT_ATTRIBUTES).
     fn run(self, alloc: Global, vars: &Vars) -> Result<(Vars, ()), CallError<ProfileRunFault>> {
-        let set = without(alloc, vars)?;
+        let set = without_attributes_or(alloc, vars, ProfileRunFault::NoData)?;
         let applied = applied(alloc, &set, self.profile)?;
-        let to = with(alloc, &applied, vars)?;
+        let to = with_attributes_or(alloc, &applied, vars, ProfileRunFault::TooLong)?;
         Ok((to, ()))
-    }
-}
-
-/// The variables without their attributes.
-fn without(alloc: Global, vars: &Vars) -> Result<Vars, CallError<ProfileRunFault>>
-    ensures set { IfOk result (λ set. set ≡ data_of vars.now) }
-    ensures refused { IfErr result (λ error. IfRefused error (λ f. (f ≡ run.NoData) × HasNoData vars.now)) }
-{
-    match without_attributes(alloc, vars) {
-        Ok(set) => Ok(set),
-        Err(AttributesFault::NoData) => Err(CallError::Refused(ProfileRunFault::NoData)),
-        Err(_) => Err(CallError::OutOfMemory),
-    }
-}
-
-/// The variables with the attributes of those that are there.
-fn with(alloc: Global, vars: &Vars, there: &Vars) -> Result<Vars, CallError<ProfileRunFault>>
-    ensures kept { IfOk result (λ kept. kept ≡ with_attributes there.now vars.now) }
-    ensures refused { IfErr result (λ error. IfRefused error (λ f. (f ≡ run.TooLong) × HasLongData vars.now)) }
-{
-    match with_attributes(alloc, vars, there) {
-        Ok(kept) => Ok(kept),
-        Err(AttributesFault::TooLong) => Err(CallError::Refused(ProfileRunFault::TooLong)),
-        Err(_) => Err(CallError::OutOfMemory),
     }
 }
 

@@ -8,11 +8,10 @@ ghost use Rattle.boot_journal.specs.Attributes.{data_of};
 ghost use Rattle.boot_journal.specs.Cause.{IfRefused};
 ghost use Rattle.boot_trials.specs.Run.{IsKept, IsNext, IsNewTrial, IsNoTrial, IsNextRefusal, IsTry, IsTryFault};
 
-use crate::confirming::data_in;
 use crate::stage::Stage;
 use crate::trial::Trial;
 use boot_edits::{Edit, EditFault, EditRun, EditRunFault};
-use boot_journal::{BootId, CallError, Run};
+use boot_journal::{BootId, CallError, Run, without_attributes_or};
 use sha2::{Digest, Sha256};
 use std::alloc::{AllocError, Global};
 use uefi_option::check_option;
@@ -39,7 +38,7 @@ impl Run for TryRun<'_> {
 
     /// Makes BootNext name the entry, which has to be a load option. The variables have their attributes, and keep them.
     fn run(self, alloc: Global, vars: &Vars) -> Result<(Vars, Trial), CallError<EditRunFault>> {
-        match data_in(alloc, vars) {
+        match without_attributes_or(alloc, vars, EditRunFault::NoData) {
             Ok(set) => begin(alloc, &self, vars, &set),
             Err(error) => Err(error),
         }

@@ -12,7 +12,7 @@ use crate::current::boot_current;
 use crate::outcome::{Facts, Outcome, outcome_of};
 use crate::trial::Trial;
 use boot_edits::EditRunFault;
-use boot_journal::{AttributesFault, BootId, CallError, Run, without_attributes};
+use boot_journal::{BootId, CallError, Run, without_attributes_or};
 use std::alloc::{AllocError, Global};
 use uefi_vars::Vars;
 
@@ -90,7 +90,7 @@ fn came_of(
     ensures done { IfOk result (IsOutcome run.now.trial.now run.now.start.now (current_of (data_of vars.now)) (data_of vars.now)) }
     ensures refused { IfErr result (λ error. IfRefused error (λ f. (f ≡ fault.NoData) × HasNoData vars.now)) }
 {
-    let set = data_in(alloc, vars)?;
+    let set = without_attributes_or(alloc, vars, EditRunFault::NoData)?;
     Ok(outcome_in(alloc, run, &set)?)
 }
 
@@ -104,16 +104,4 @@ fn outcome_in(alloc: Global, run: &ConfirmRun<'_>, set: &Vars) -> Result<Outcome
         vars: set,
     };
     outcome_of(alloc, run.trial, &facts)
-}
-
-/// The variables without their attributes.
-pub(crate) fn data_in(alloc: Global, vars: &Vars) -> Result<Vars, CallError<EditRunFault>>
-    ensures done { IfOk result (λ set. set ≡ data_of vars.now) }
-    ensures refused { IfErr result (λ error. IfRefused error (λ f. (f ≡ fault.NoData) × HasNoData vars.now)) }
-{
-    match without_attributes(alloc, vars) {
-        Ok(set) => Ok(set),
-        Err(AttributesFault::NoData) => Err(CallError::Refused(EditRunFault::NoData)),
-        Err(_) => Err(CallError::OutOfMemory),
-    }
 }

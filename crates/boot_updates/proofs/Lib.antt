@@ -1,4 +1,3 @@
 mod Below
 mod NextTold
-mod OpenRefusals
 mod Guards

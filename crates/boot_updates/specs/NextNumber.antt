@@ -1,15 +1,8 @@
--- The next number, as answers tell it, and of what a machine keeps.
-use Rattle.std.specs.Prelude.{◌≡◌, ℕ}
-use Rattle.uefi_vars.specs.Vars.{Variables}
+-- The next number, as answers tell it.
+use Rattle.std.specs.Prelude.{ℕ}
 use Rattle.boot_requests.specs.declared.answer.Answer.{Answer}
 use Rattle.boot_requests.specs.declared.reply.Reply.{Reply}
 use Rattle.boot_requests.specs.declared.reply.Reply.TheVariants as reply
-use Rattle.boot_requests.specs.State.{State}
-use Rattle.journaled_requests.specs.Requests.{KeepsState}
-
--- the number is the next one over these variables, as a machine keeps them
-abbrev pub IsNextOf : Variables → ℕ → Type 0
-IsNextOf vars number = (m : State) → KeepsState vars m → number ≡ m.next_number
 
 -- the next number after an event that was answered so, if it was this before
 abbrev pub next_told : ℕ → Reply → ℕ

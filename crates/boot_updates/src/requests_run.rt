@@ -1,18 +1,15 @@
 //! Runs of requests over a machine's variables, of which it is noted what they applied. None is made if something isn't as
 //! it was expected.
 
-ghost use Rattle.std.specs.Prelude.{◌≡◌, [], Some, IfOk};
-ghost use Rattle.boot_requests.specs.State.{State};
-ghost use Rattle.boot_requests.specs.StoredState.{OpensAs};
+ghost use Rattle.std.specs.Prelude.{◌≡◌, [], Some};
 
 use crate::guarded::{Unmet, unmet_of};
 use crate::noted::{Noted, note_run};
-use crate::numbers::next_number;
 use boot_journal::{CallError, Run};
 use boot_requests::Answer;
-use journaled_requests::{Requests, RunFault, run_set};
+use journaled_requests::{AnsweredRequests, Requests, RunFault};
 use request_preconditions::{IDENTITY_LEN, MachineState, Precondition};
-use std::alloc::{AllocError, Global};
+use std::alloc::Global;
 use uefi_vars::Vars;
 use wanted_changes::{KeptNotes, leave_out};
 
@@ -48,10 +45,9 @@ pub struct Answered {
 
 impl Run for RequestsRun<'_> {
     ghost use Rattle.boot_journal.specs.Attributes.{data_of};
-    ghost use Rattle.journaled_requests.specs.Requests.{IsAnswered};
+    ghost use Rattle.journaled_requests.specs.Requests.{IsAnswered, IsNextOf};
     ghost use Rattle.journaled_requests.specs.RunFault.{IsRunFault};
     ghost use Rattle.boot_updates.specs.Guarded.{AreMet, IsGuarded};
-    ghost use Rattle.boot_updates.specs.NextNumber.{IsNextOf};
     ghost use Rattle.boot_updates.specs.Told.{AreToldBy};
     ghost use Rattle.std.specs.Prelude.{map};
     ghost use Rattle.std.specs.String.{string_bytes};
@@ -70,9 +66,12 @@ impl Run for RequestsRun<'_> {
     ghost refuses = { λ run from fault. IsRunFault run.requests.events.now from fault };
 
     fn run(self, alloc: Global, vars: &Vars) -> Result<(Vars, Answered), CallError<RunFault>> {
-        let (to, answers) = self.requests.run(alloc, vars)?;
-        let mut set = run_set(alloc, vars)?;
-        let first = first_number(alloc, &set)?;
+        let AnsweredRequests {
+            mut set,
+            first,
+            to,
+            answers,
+        } = self.requests.answer(alloc, vars)?;
         leave_out(&mut set, self.left_out);
         let state = MachineState {
             journal: self.journal,
@@ -115,12 +114,4 @@ impl Answered {
             },
         }
     }
-}
-
-/// The number of the request that is to be applied next over these variables, which have no attributes.
-fn first_number(alloc: Global, set: &Vars) -> Result<u32, AllocError>
-    ensures { IfOk result (λ number. (m : State) → OpensAs set.now m → number ≡ m.next_number) }
-{
-    let set = set.copy(alloc)?;
-    Ok(next_number(alloc, set)?.unwrap_or(0))
 }

@@ -45,10 +45,9 @@ pub struct WantedRequests<'a, 'b, 's, T> {
 
 impl<T: TellsTrial> Wanted for WantedRequests<'_, '_, '_, T> {
     ghost use Rattle.boot_journal.specs.Attributes.{data_of};
-    ghost use Rattle.journaled_requests.specs.Requests.{IsAnswered};
+    ghost use Rattle.journaled_requests.specs.Requests.{IsAnswered, IsNextOf};
     ghost use Rattle.journaled_requests.specs.RunFault.{IsRunFault};
     ghost use Rattle.boot_updates.specs.Guarded.{AreMet, IsGuarded};
-    ghost use Rattle.boot_updates.specs.NextNumber.{IsNextOf};
     ghost use Rattle.boot_updates.specs.Told.{AreToldBy};
     ghost use Rattle.std.specs.Prelude.{◌≡◌, map};
     ghost use Rattle.std.specs.String.{string_bytes};

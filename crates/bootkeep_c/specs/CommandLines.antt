@@ -17,7 +17,7 @@ pub record AreEnded (bytes : List ℕ) (words : List (List ℕ)) : Type 0 where
   pub whole : AllByRecursion HasNoZero words
   pub parts : bytes ≡ flat_map ended words
 
--- behind whole words there are bytes of one that no zero ends, which begins at this place
+-- after whole words there are bytes of one that no zero ends, which begins at this place
 pub record HasOpenWord (bytes : List ℕ) (place : ℕ) : Type 0 where
   pub words : List (List ℕ)
   pub rest : List ℕ
@@ -42,7 +42,7 @@ IsWordsFailure bytes failed =
 
 -- ---- for private functions
 
--- the word is at the start of the bytes, and these are behind the zero that ends it
+-- the word is at the start of the bytes, and these are after the zero that ends it
 pub record SplitsWord (bytes word behind : List ℕ) : Type 0 where
   pub whole : HasNoZero word
   pub parts : bytes ≡ ended word ++ behind

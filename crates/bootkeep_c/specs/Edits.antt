@@ -1,5 +1,5 @@
 -- Edits of sets as C asks for them, and what it is told.
-use Rattle.std.specs.Prelude.{◌≡◌, ◌≢◌, ◌⊎◌, ℕ, ◌<◌, ◌≤◌, ◌==◌, Bool, not, List, Option, Some, None, IfSome}
+use Rattle.std.specs.Prelude.{◌≡◌, ◌≢◌, ◌⊎◌, ℕ, ◌<◌, ◌≤◌, ◌==◌, Bool, not, List, Option}
 use Rattle.uefi_vars.specs.Vars.{Variables}
 use Rattle.uefi_vars.specs.Set.{SpellsSet, set_bytes}
 use Rattle.boot_edits.specs.declared.addition.Addition.{Addition}
@@ -10,14 +10,13 @@ use Rattle.boot_edits.specs.declared.answer.EditAnswer.TheVariants as answer
 use Rattle.boot_edits.specs.declared.edit.Edit.{Edit}
 use Rattle.boot_edits.specs.declared.edit.Edit.TheVariants as edit
 use Rattle.boot_edits.specs.declared.fault.EditFault.{EditFault}
-use Rattle.boot_edits.specs.declared.fault.EditFault.TheVariants as fault
 use Rattle.boot_edits.specs.declared.reorder.NewOrder.{NewOrder}
 use Rattle.boot_edits.specs.Edit.{IsEdited, IsEditFault}
 use Rattle.bootkeep_c.specs.declared.edit.EditNumbers.{EditNumbers}
 use Rattle.bootkeep_c.specs.declared.edit.EditedNumbers.{EditedNumbers}
 use Rattle.bootkeep_c.specs.declared.failure.Failure.{Failure}
 use Rattle.bootkeep_c.specs.declared.refusal.Refusal.{Refusal}
-use Rattle.bootkeep_c.specs.Status.{done, bad_size, no_memory}
+use Rattle.bootkeep_c.specs.Status.{done, no_memory}
 use Rattle.bootkeep_c.specs.Buffer.{Gives, IsKept}
 use Rattle.bootkeep_c.specs.Plans.{number_or_none}
 use Rattle.bootkeep_c.specs.Refusals.{bare, edit_failure, Tells}

@@ -32,7 +32,7 @@ HasNotRun ran = ran ≡ None
 
 -- ---- notes
 
--- From the notes at the start of these bytes those after the frames are made, with nothing behind them; from none, none.
+-- From the notes at the start of these bytes those after the frames are made, with nothing after them; from none, none.
 abbrev pub AreNotesOf : List ℕ → RanFrames → List ℕ → Type 0
 AreNotesOf bytes ran after =
     (HasNoNotes bytes × (after ≡ []))

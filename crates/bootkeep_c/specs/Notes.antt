@@ -11,7 +11,7 @@ use Rattle.bootkeep_c.specs.Refusals.{bare, notes_failure}
 abbrev pub IsNotesFailure : List ℕ → Failure → Type 0
 IsNotesFailure bytes failed = (fault : NotesFault) × IsNotesFault bytes fault × (failed ≡ notes_failure fault)
 
--- so many bytes of notes are at the start: all but those of the file behind them, or none
+-- so many bytes of notes are at the start: all but those of the file after them, or none
 abbrev pub TakesNotes : List ℕ → ℕ → Type 0
 TakesNotes bytes taken =
     (HasNoNotes bytes × (taken ≡ 0))
@@ -22,7 +22,7 @@ abbrev pub IsIdentityIn : List ℕ → List ℕ → Type 0
 IsIdentityIn bytes identity =
     (notes : NotesParts) × (file : List ℕ) × SpellsNotes bytes notes file × (identity ≡ notes.identity)
 
--- the bytes are notes with this identity and no digests, and nothing is behind them
+-- the bytes are notes with this identity and no digests, and nothing is after them
 abbrev pub AreNewNotes : List ℕ → List ℕ → Type 0
 AreNewNotes identity bytes = SpellsNotes bytes (notes_of identity []) []
 

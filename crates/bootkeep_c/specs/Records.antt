@@ -3,7 +3,7 @@ use Rattle.std.specs.Prelude.{◌≡◌, ◌⊎◌, ℕ, List, length, Some, Non
 use Rattle.std.specs.List.{AllByRecursion, slice_get}
 use Rattle.uefi_vars.specs.Vars.{Variables}
 use Rattle.uefi_vars.specs.Set.{SpellsSet, set_bytes}
-use Rattle.boot_journal.specs.MachineName.{IsMachineName}
+use Rattle.machine_names.specs.MachineName.{IsMachineName}
 use Rattle.change_records.specs.declared.fault.RecordFault.{RecordFault}
 use Rattle.change_records.specs.declared.stands.Standing.{Standing}
 use Rattle.change_records.specs.declared.stands.Standing.TheVariants.{Unchanged, NotMade, Changed}

@@ -16,7 +16,7 @@ use Rattle.boot_journal.specs.Bytes.{SpellsJournalFile, of_machine}
 use Rattle.boot_journal.specs.Fault.{IsJournalFault}
 use Rattle.boot_journal.specs.Journal.{JournalParts, idle}
 use Rattle.boot_journal.specs.JournalAttributes.{journal_kept, IsFaultOfJournal}
-use Rattle.boot_journal.specs.MachineName.{IsMachineName}
+use Rattle.machine_names.specs.MachineName.{IsMachineName}
 use Rattle.boot_moves.specs.declared.parts.Answer.{Answer as Became}
 use Rattle.boot_moves.specs.declared.parts.Answer.TheVariants.{Done, Refused, Perhaps}
 use Rattle.boot_moves.specs.Deeds.{Act, Sets, Replaces}

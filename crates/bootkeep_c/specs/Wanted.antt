@@ -1,13 +1,12 @@
 -- What is run over a machine whose moves C makes: where it leads, and why it refuses the variables. They are those that a
 -- machine keeps, with attributes.
-use Rattle.std.specs.Prelude.{◌≡◌, ℕ, List}
+use Rattle.std.specs.Prelude.{◌≡◌, List}
 use Rattle.uefi_vars.specs.Vars.{Variables}
 use Rattle.boot_requests.specs.declared.event.Event.{Event}
-use Rattle.boot_requests.specs.State.{State}
 use Rattle.boot_edits.specs.declared.edit.Edit.{Edit}
 use Rattle.boot_edits.specs.Restore.{IsRestored}
 use Rattle.boot_edits.specs.Run.{IsRun, IsRunFault as IsEditRunFault}
-use Rattle.journaled_requests.specs.Requests.{KeepsState, IsAnswered}
+use Rattle.journaled_requests.specs.Requests.{IsAnswered, IsNextOf}
 use Rattle.journaled_requests.specs.RunFault.{IsRunFault}
 use Rattle.bootkeep_c.specs.declared.wanted_run.OwnedEdit.{OwnedEdit}
 use Rattle.bootkeep_c.specs.declared.wanted_run.WantedRun.{WantedRun}
@@ -17,10 +16,6 @@ use Rattle.bootkeep_c.specs.declared.wanted_run.RunAnswer.TheVariants as answer
 use Rattle.bootkeep_c.specs.declared.wanted_run.RunRefusal.{RunRefusal}
 use Rattle.bootkeep_c.specs.declared.wanted_run.RunRefusal.TheVariants as refusal
 use Rattle.bootkeep_c.specs.Edits.{IsEditAsked}
-
--- the number is that of the request that is to be applied next over the variables
-abbrev pub IsNextOf : Variables → ℕ → Type 0
-IsNextOf vars number = (m : State) → KeepsState vars m → number ≡ m.next_number
 
 -- by the deliveries of frames the one lead to the others, and this is answered
 abbrev pub LeadsByFrames : List Event → Variables → Variables → RunAnswer → Type 0

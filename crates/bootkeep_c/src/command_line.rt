@@ -46,16 +46,16 @@ fn cut<'a>(alloc: Global, bytes: &'a [u8]) -> Result<Vec<&'a [u8]>, Failure>
     let mut words = Vec::new(alloc);
     let mut rest = bytes;
     while !rest.is_empty() {
-        let Some((word, behind)) = split_word(rest) else {
+        let Some((word, after)) = split_word(rest) else {
             return Err(Failure::at(RECORD_OPEN_WORD, bytes.len() - rest.len()));
         };
         words.push(word)?;
-        rest = behind;
+        rest = after;
     }
     Ok(words)
 }
 
-/// What stands before the first zero, and what is behind that: `None` if there is no zero.
+/// What stands before the first zero, and what comes after that: `None` if there is no zero.
 fn split_word(bytes: &[u8]) -> Option<(&[u8], &[u8])>
     ensures found { IfSome result (λ split. SplitsWord bytes.now split.0.now split.1.now) }
     ensures shorter { IfSome result (λ split. length split.1.now < length bytes.now) }

@@ -38,7 +38,7 @@ const _: () = prove!(ORDER_MAX as usize == uefi_vars::ORDER_MAX);
 
 const _: () = prove!(LIST_MAX as usize == uefi_option::LIST_MAX);
 
-const _: () = prove!(MACHINE_MAX as usize == boot_journal::MACHINE_NAME_MAX);
+const _: () = prove!(MACHINE_MAX as usize == machine_names::MACHINE_NAME_MAX);
 
 const _: () = prove!(IDENTITY_LEN as usize == boot_notes::IDENTITY_LEN);
 

@@ -17,7 +17,7 @@ use uefi_vars::write_set;
 /// How many bytes the struct of a record's places has.
 const RECORD_LEN: usize = 72;
 
-/// Where the name of the machine is: behind the magic, and the four bytes of its length.
+/// Where the name of the machine is: after the magic, and the four bytes of its length.
 const MACHINE_AT: usize = 8;
 
 /// How many bytes are between the name and the set before the change: the eight of the time, and the lengths of both.

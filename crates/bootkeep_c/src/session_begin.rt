@@ -3,7 +3,7 @@
 ghost use Rattle.std.specs.Prelude.{◌≡◌, ◌≢◌, ◌↔◌, Some, None, IfOk, IfErr, IsTrue};
 ghost use Rattle.uefi_vars.specs.Name.{IsName};
 ghost use Rattle.uefi_vars.specs.Set.{SpellsSet};
-ghost use Rattle.boot_journal.specs.MachineName.{IsMachineName};
+ghost use Rattle.machine_names.specs.MachineName.{IsMachineName};
 ghost use Rattle.bootkeep_c.specs.declared.failure.Failure.{Failure};
 ghost use Rattle.bootkeep_c.specs.Refusals.{bare};
 ghost use Rattle.bootkeep_c.specs.Sessions.{IsBegun, IsBegunBy, IsBegunWith, IsBeginFailure, IsUnbegunBy, IsUnbegunWith, IsBegunBack, IsBackFailure, IsUnbegunBack, IsJournalOf, IsJournalFailure};
@@ -18,9 +18,10 @@ use crate::session::Session;
 use crate::set::name_text;
 use crate::wanted_run::{OwnedEdit, WantedRun};
 use boot_journal::{
-    AttributesFault, BootId, Journal, JournalFile, MachineName, read_journal, without_attributes,
+    AttributesFault, BootId, Journal, JournalFile, read_journal, without_attributes,
 };
 use boot_moves::Dialogue;
+use machine_names::MachineName;
 use std::alloc::Global;
 use uefi_vars::{Vars, read_set};
 

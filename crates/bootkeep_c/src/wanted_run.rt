@@ -3,14 +3,14 @@
 ghost use Rattle.std.specs.Prelude.{◌≡◌, IfOk, IfErr};
 ghost use Rattle.boot_journal.specs.Cause.{IfRefused};
 ghost use Rattle.boot_journal.specs.declared.machine.CallError.TheVariants.{OutOfMemory};
-ghost use Rattle.bootkeep_c.specs.Wanted.{IsNextOf, LeadsByFrames, RefusesFrames, LeadsByEdit, RefusesEdit, LeadsBack};
+ghost use Rattle.bootkeep_c.specs.Wanted.{LeadsByFrames, RefusesFrames, LeadsByEdit, RefusesEdit, LeadsBack};
 
 use crate::edit::{EditNumbers, edit_asked};
 use boot_edits::{EditAnswer, EditRun, EditRunFault, Restore};
 use boot_journal::{CallError, Run};
-use boot_requests::{Answer, Event, Keeper};
-use journaled_requests::{Requests, RunFault, run_set};
-use std::alloc::{AllocError, Global};
+use boot_requests::{Answer, Event};
+use journaled_requests::{AnsweredRequests, Requests, RunFault};
+use std::alloc::Global;
 use uefi_vars::Vars;
 
 /// What is run over a machine.
@@ -103,26 +103,17 @@ fn run_frames(
     ensures leads { IfOk result (λ done. LeadsByFrames events.now vars.now done.0 done.1) }
     ensures refuses { IfErr result (λ error. IfRefused error (RefusesFrames events.now vars.now)) }
 {
-    match (Requests { events }).run(alloc, vars) {
-        Ok((to, answers)) => {
-            let first = next_number(alloc, vars)?;
-            Ok((to, RunAnswer::Replies(Replied { first, answers })))
-        }
+    match (Requests { events }).answer(alloc, vars) {
+        Ok(
+            AnsweredRequests {
+                set: _,
+                first,
+                to,
+                answers,
+            },
+        ) => Ok((to, RunAnswer::Replies(Replied { first, answers }))),
         Err(CallError::Refused(fault)) => Err(CallError::Refused(RunRefusal::Frames(fault))),
         Err(CallError::OutOfMemory) => Err(CallError::OutOfMemory),
-    }
-}
-
-/// The number of the request that is to be applied next over the variables, which a keeper opens.
-fn next_number(alloc: Global, vars: &Vars) -> Result<u32, AllocError>
-    ensures { IfOk result (λ number. IsNextOf vars.now number) }
-{
-    let Ok(set) = run_set(alloc, vars) else {
-        return Err(AllocError);
-    };
-    match Keeper::open(alloc, set) {
-        Ok(keeper) => Ok(keeper.next_number()),
-        Err(_) => Err(AllocError),
     }
 }
 

@@ -13,7 +13,7 @@ use Rattle.uefi_vars.specs.Vars.{Variables}
 use Rattle.uefi_vars.specs.Set.{data_bytes, set_bytes, SpellsSet}
 use Rattle.uefi_vars.specs.Fault.{IsFirstFault}
 use Rattle.uefi_vars.proofs.Bytes.{AllByRecursion-behind}
-use Rattle.boot_journal.specs.MachineName.{IsMachineName}
+use Rattle.machine_names.specs.MachineName.{IsMachineName}
 use Rattle.change_records.specs.declared.fault.RecordFault.{RecordFault}
 use Rattle.change_records.specs.declared.fault.RecordFault.TheVariants as fault
 use Rattle.change_records.specs.Fields.{magic, fields_bytes, HasFields, IsFileFault}

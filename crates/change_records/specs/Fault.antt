@@ -5,7 +5,7 @@ use Rattle.uefi_vars.specs.declared.fault.SetFault.{SetFault}
 use Rattle.uefi_vars.specs.Vars.{Variables}
 use Rattle.uefi_vars.specs.Set.{SpellsSet}
 use Rattle.uefi_vars.specs.Fault.{IsFirstFault}
-use Rattle.boot_journal.specs.MachineName.{IsMachineName}
+use Rattle.machine_names.specs.MachineName.{IsMachineName}
 use Rattle.change_records.specs.declared.fault.RecordFault.{RecordFault}
 use Rattle.change_records.specs.declared.fault.RecordFault.TheVariants as fault
 use Rattle.change_records.specs.Fields.{HasFields, IsFileFault}

@@ -5,7 +5,7 @@ use Rattle.std.specs.List.{AllByRecursion}
 use Rattle.std.specs.String.{string_bytes}
 use Rattle.uefi_vars.specs.Vars.{Variables, IsVars}
 use Rattle.uefi_vars.specs.Set.{set_bytes}
-use Rattle.boot_journal.specs.MachineName.{IsMachineName}
+use Rattle.machine_names.specs.MachineName.{IsMachineName}
 use Rattle.change_records.specs.declared.record.Record.{Record}
 use Rattle.change_records.specs.Fields.{HasFields}
 

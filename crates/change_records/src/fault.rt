@@ -23,7 +23,7 @@ pub enum RecordFault {
     #[error("it has fewer than four fields")]
     TooFewFields,
     /// The first field is no name of a machine: it has no byte, or more than
-    /// [`MACHINE_NAME_MAX`](boot_journal::MACHINE_NAME_MAX).
+    /// [`MACHINE_NAME_MAX`](machine_names::MACHINE_NAME_MAX).
     #[error("its machine's name has no byte, or more than 4096")]
     BadMachine,
     /// The second field, the time, doesn't have eight bytes.

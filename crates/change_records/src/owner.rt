@@ -2,12 +2,12 @@
 
 ghost use Rattle.std.specs.Prelude.{◌≡◌, ◌↔◌, ◌++◌, ℕ, List, IfSome, IsTrue};
 ghost use Rattle.uefi_vars.specs.Set.{data_bytes};
-ghost use Rattle.boot_journal.specs.MachineName.{IsMachineName};
+ghost use Rattle.machine_names.specs.MachineName.{IsMachineName};
 ghost use Rattle.change_records.specs.Fields.{magic};
 ghost use Rattle.change_records.specs.Owner.{IsOwner, BeginsWith};
 
 use crate::fields::{LEN_SIZE, MAGIC, split_field};
-use boot_journal::{MACHINE_NAME_MAX, MachineName};
+use machine_names::{MACHINE_NAME_MAX, MachineName};
 
 /// How many bytes at the start of a record's file have the machine's name, however long it is.
 pub const HEAD_MAX: usize = MAGIC.len() + LEN_SIZE + MACHINE_NAME_MAX;

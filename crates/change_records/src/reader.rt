@@ -6,7 +6,7 @@ ghost use Rattle.std.specs.List.{AllByRecursion};
 ghost use Rattle.std.specs.String.{string_bytes};
 ghost use Rattle.uefi_vars.specs.Set.{SpellsSet};
 ghost use Rattle.uefi_vars.specs.Fault.{IsFirstFault};
-ghost use Rattle.boot_journal.specs.MachineName.{IsMachineName};
+ghost use Rattle.machine_names.specs.MachineName.{IsMachineName};
 ghost use Rattle.change_records.specs.Fields.{HasNoMagic};
 ghost use Rattle.change_records.specs.Record.{RecordParts, record_parts, record_fields, IsRecord, SpellsRecord};
 ghost use Rattle.change_records.specs.Fault.{IsSetFault, IsWordFault, IsFieldsFault, IsRecordFault};
@@ -16,7 +16,7 @@ use crate::fault::RecordFault;
 use crate::fields::read_fields;
 use crate::laws;
 use crate::record::Record;
-use boot_journal::MachineName;
+use machine_names::MachineName;
 use std::alloc::Global;
 use uefi_vars::{SetFault, Vars, read_set};
 
@@ -109,7 +109,7 @@ fn record_of(alloc: Global, fields: &[&[u8]]) -> Result<Record, RecordFault>
 /// The first of these faults. [`RecordFault::BadMagic`] if the file doesn't begin with `BKH1`. Then
 /// [`RecordFault::Truncated`] if it ends in one of its fields, [`RecordFault::TooFewFields`] if it has fewer than four, and
 /// for each field, in the order in which they are in the file: [`RecordFault::BadMachine`] if the first has no byte or more
-/// than [`MACHINE_NAME_MAX`](boot_journal::MACHINE_NAME_MAX), [`RecordFault::BadTime`] if the second doesn't have eight,
+/// than [`MACHINE_NAME_MAX`](machine_names::MACHINE_NAME_MAX), [`RecordFault::BadTime`] if the second doesn't have eight,
 /// [`RecordFault::BadBefore`] and [`RecordFault::BadAfter`] if the third and the fourth are no set files, with the first
 /// fault that these have, and [`RecordFault::BadWord`] if a further one isn't UTF-8. [`RecordFault::OutOfMemory`] comes if
 /// memory was refused, also before another fault, and never if the file doesn't begin with `BKH1`.

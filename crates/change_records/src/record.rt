@@ -7,7 +7,7 @@ ghost use Rattle.change_records.specs.Timeout.{has_timeout, with_timeout_of};
 
 use crate::boot_part::boot_part;
 use crate::timeout::or_timeout_of;
-use boot_journal::MachineName;
+use machine_names::MachineName;
 use std::alloc::{AllocError, Global};
 use uefi_vars::{TIMEOUT, Vars, laws as vars_laws};
 

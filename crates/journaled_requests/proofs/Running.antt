@@ -19,7 +19,7 @@ use Rattle.boot_journal.specs.declared.machine.CallError.{CallError}
 use Rattle.boot_journal.specs.declared.machine.CallError.TheVariants.{OutOfMemory, Refused}
 use Rattle.journaled_requests.specs.declared.requests.RunFault.{RunFault}
 use Rattle.journaled_requests.specs.declared.requests.RunFault.TheVariants as refusal
-use Rattle.boot_journal.specs.Attributes.{data_of, with_attributes, KeepAttributes, HasLongData}
+use Rattle.boot_journal.specs.Attributes.{data_of, with_attributes, KeepAttributes, HasNoData, HasLongData}
 use Rattle.boot_journal.specs.Cause.{IfRefused}
 use Rattle.journaled_requests.specs.Requests.{KeepsState, IsAnswered}
 use Rattle.journaled_requests.specs.RunFault.{LeadsTooFar, IsRunFault, IsOpenRefusal}
@@ -32,12 +32,28 @@ pub err_then : {A E : Type 0} (r : Result A E) (Q P : E → Type 0) → IsErrAnd
 err_then (Ok a) Q P is then = tt
 err_then (Err e) Q P is then = then e is
 
-pub refused_then : (error : CallError RunFault) (fault : OpenFault) (vars set : Variables) → set ≡ data_of vars →
+-- a set isn't opened for the fault that it has
+pub refused_then : (error : CallError RunFault) (fault : OpenFault) (set : Variables) →
     IfRefused error (λ reason. (reason ≡ refusal.Open fault) × (fault ≢ opening.OutOfMemory)) →
-    (fault ≢ opening.OutOfMemory → IsOpenFault set fault) → IfRefused error (IsOpenRefusal vars)
-refused_then OutOfMemory fault vars set same is then = tt
-refused_then (Refused reason) fault vars set same is then =
-    subst (IsOpenRefusal vars) (sym is.0) (subst (λ (v : Variables). IsOpenFault v fault) same (then is.1))
+    (fault ≢ opening.OutOfMemory → IsOpenFault set fault) → IfRefused error (IsOpenRefusal set)
+refused_then OutOfMemory fault set is then = tt
+refused_then (Refused reason) fault set is then = subst (IsOpenRefusal set) (sym is.0) (then is.1)
+
+open_refuses : (events : List Event) (vars : Variables) (reason : RunFault) → IsOpenRefusal (data_of vars) reason → IsRunFault events vars reason
+open_refuses events vars (refusal.Open fault) why = why
+open_refuses events vars refusal.NoData why = absurd why
+open_refuses events vars refusal.TooLong why = absurd why
+
+pub refused_open : (error : CallError RunFault) (events : List Event) (vars set : Variables) → set ≡ data_of vars →
+    IfRefused error (IsOpenRefusal set) → IfRefused error (IsRunFault events vars)
+refused_open OutOfMemory events vars set same why = tt
+refused_open (Refused reason) events vars set same why =
+    open_refuses events vars reason (subst (λ (v : Variables). IsOpenRefusal v reason) same why)
+
+pub refused_for : (error : CallError RunFault) (events : List Event) (vars : Variables) →
+    IfRefused error (λ reason. (reason ≡ refusal.NoData) × HasNoData vars) → IfRefused error (IsRunFault events vars)
+refused_for OutOfMemory events vars is = tt
+refused_for (Refused reason) events vars is = subst (IsRunFault events vars) (sym is.0) is.1
 
 pub refused_with : (error : CallError RunFault) (events : List Event) (vars set : Variables) →
     IfRefused error (λ reason. (reason ≡ refusal.TooLong) × HasLongData set) →

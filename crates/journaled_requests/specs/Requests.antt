@@ -28,6 +28,10 @@ KeepsState vars m = OpensAs (data_of vars) m
 abbrev pub LeadsTo : Variables → List Seen → Variables → Type 0
 LeadsTo from seen to = (m : State) → KeepsState from m → IsImage (state_at m (run_followed_by [] seen)) (data_of to)
 
+-- the number of the request that is to be applied next over these variables is this
+abbrev pub IsNextOf : Variables → ℕ → Type 0
+IsNextOf vars number = (m : State) → KeepsState vars m → number ≡ m.next_number
+
 -- an update by events that were read: what is there afterwards has the attributes of what was there before
 pub record IsUpdateBy (from : Variables) (seen : List Seen) (to : Variables) : Type 0 where
   pub read : AreRead (run_followed_by [] seen)

@@ -28,11 +28,11 @@ IsRunFault events from (Open fault) = IsOpenFault (data_of from) fault
 IsRunFault events from NoData = HasNoData from
 IsRunFault events from TooLong = LeadsTooFar events from
 
--- for private functions: why no run is begun over these variables
+-- for private functions: why a set isn't opened
 abbrev pub IsOpenRefusal : Variables → RunFault → Type 0
-IsOpenRefusal from (Open fault) = IsOpenFault (data_of from) fault
-IsOpenRefusal from NoData = HasNoData from
-IsOpenRefusal from TooLong = ⊥
+IsOpenRefusal set (Open fault) = IsOpenFault set fault
+IsOpenRefusal set NoData = ⊥
+IsOpenRefusal set TooLong = ⊥
 
 -- the words of a fault: its name and, after a blank, the words of the fault that it holds
 abbrev pub run_fault_words : RunFault → List ℕ

@@ -13,4 +13,4 @@ mod noted_run;
 mod requests;
 
 pub use noted_run::NotedRun;
-pub use requests::{Requests, RunFault, run_set};
+pub use requests::{AnsweredRequests, Requests, RunFault};

@@ -1,14 +1,13 @@
 //! Runs of requests over a machine's variables.
 
 ghost use Rattle.std.specs.Prelude.{◌≡◌, ◌≢◌, IfOk, IfErr};
+ghost use Rattle.boot_requests.specs.StoredState.{OpensAs};
 ghost use Rattle.boot_requests.specs.declared.fault.OpenFault.{OpenFault};
 ghost use Rattle.boot_requests.specs.Turn.{plain_start};
-ghost use Rattle.boot_journal.specs.Attributes.{data_of, with_attributes, HasLongData};
 ghost use Rattle.boot_journal.specs.Cause.{IfRefused};
-ghost use Rattle.journaled_requests.specs.Requests.{KeepsState};
 ghost use Rattle.journaled_requests.specs.RunFault.{IsOpenRefusal};
 
-use boot_journal::{AttributesFault, CallError, Run, with_attributes, without_attributes};
+use boot_journal::{CallError, Run, with_attributes_or, without_attributes_or};
 use boot_requests::{Answer, Event, Keeper, OpenFault, answer_events, laws};
 use std::alloc::{AllocError, Global};
 use thiserror::Error;
@@ -55,6 +54,58 @@ impl RunFault {
     }
 }
 
+/// What events lead to over a machine's variables.
+#[derive(Drop)]
+pub struct AnsweredRequests {
+    /// The variables before them, without their attributes.
+    pub set: Vars,
+    /// The number of the request that was to be applied next before them.
+    pub first: u32,
+    /// The variables after them, as the machine is to keep them.
+    pub to: Vars,
+    /// The answers to the events.
+    pub answers: Vec<Answer>,
+}
+
+impl Requests<'_> {
+    ghost use Rattle.boot_journal.specs.Attributes.{data_of};
+    ghost use Rattle.journaled_requests.specs.Requests.{IsAnswered, IsNextOf};
+    ghost use Rattle.journaled_requests.specs.RunFault.{IsRunFault};
+
+    /// Takes the attributes off the variables of the boot manager, opens what is left, runs the events over it, and
+    /// puts the attributes on again: a variable that is replaced has those that it had, and a new one has
+    /// [`BOOT_ATTRIBUTES`](uefi_vars::BOOT_ATTRIBUTES).
+    ///
+    /// # Errors
+    ///
+    /// [`CallError::Refused`] with the fault that what the machine keeps has, and [`CallError::OutOfMemory`] if memory was
+    /// refused.
+    pub fn answer(
+        &self,
+        alloc: Global,
+        vars: &Vars,
+    ) -> Result<AnsweredRequests, CallError<RunFault>>
+        ensures answered { IfOk result (λ led. IsAnswered self.now.events.now vars.now led.to led.answers.items) }
+        ensures set { IfOk result (λ led. led.set ≡ data_of vars.now) }
+        ensures first { IfOk result (λ led. IsNextOf vars.now led.first) }
+        ensures refused { IfErr result (λ error. IfRefused error (IsRunFault self.now.events.now vars.now)) }
+    {
+        laws::a_start_stands_for_no_events();
+        laws::variables_open_as_one_state();
+        let set = without_attributes_or(alloc, vars, RunFault::NoData)?;
+        let keeper = open(alloc, set.copy(alloc)?)?;
+        let first = keeper.next_number();
+        let (keeper, answers) = answer_events(alloc, keeper, self.events)?;
+        let to = with_attributes_or(alloc, &keeper.into_vars(), vars, RunFault::TooLong)?;
+        Ok(AnsweredRequests {
+            set,
+            first,
+            to,
+            answers,
+        })
+    }
+}
+
 impl Run for Requests<'_> {
     ghost use Rattle.journaled_requests.specs.Requests.{IsAnswered};
     ghost use Rattle.journaled_requests.specs.RunFault.{IsRunFault};
@@ -67,57 +118,26 @@ impl Run for Requests<'_> {
 
     ghost refuses = { λ requests from fault. IsRunFault requests.events.now from fault };
 
-    /// Takes the attributes off the variables of the boot manager, opens what is left, runs the events over it, and
-    /// puts the attributes on again: a variable that is replaced has those that it had, and a new one has
-    /// [`BOOT_ATTRIBUTES`](uefi_vars::BOOT_ATTRIBUTES).
+    /// Runs the events as [`Requests::answer`] does.
     fn run(self, alloc: Global, vars: &Vars) -> Result<(Vars, Vec<Answer>), CallError<RunFault>> {
-        laws::a_start_stands_for_no_events();
-        laws::variables_open_as_one_state();
-        let keeper = open(alloc, vars)?;
-        let (keeper, answers) = answer_events(alloc, keeper, self.events)?;
-        let to = with(alloc, &keeper.into_vars(), vars)?;
+        let AnsweredRequests {
+            set: _,
+            first: _,
+            to,
+            answers,
+        } = self.answer(alloc, vars)?;
         Ok((to, answers))
     }
 }
 
-/// What keeps the variables of a machine, without their attributes.
-fn open(alloc: Global, vars: &Vars) -> Result<Keeper, CallError<RunFault>>
-    ensures opened { IfOk result (λ keeper. (keeper ≡ plain_start keeper.state) × KeepsState vars.now keeper.state) }
-    ensures refused { IfErr result (λ error. IfRefused error (IsOpenRefusal vars.now)) }
+/// What keeps this set.
+fn open(alloc: Global, set: Vars) -> Result<Keeper, CallError<RunFault>>
+    ensures opened { IfOk result (λ keeper. (keeper ≡ plain_start keeper.state) × OpensAs set keeper.state) }
+    ensures refused { IfErr result (λ error. IfRefused error (IsOpenRefusal set)) }
 {
-    let set = run_set(alloc, vars)?;
     match Keeper::open(alloc, set) {
         Ok(keeper) => Ok(keeper),
         Err(refused) => Err(open_error(refused.fault)),
-    }
-}
-
-/// The set that requests are run over: the variables that a machine keeps, without their attributes.
-///
-/// # Errors
-///
-/// [`CallError::Refused`] with [`RunFault::NoData`] if a variable of the boot manager has no byte after its attributes, and
-/// [`CallError::OutOfMemory`] if memory was refused.
-pub fn run_set(alloc: Global, vars: &Vars) -> Result<Vars, CallError<RunFault>>
-    ensures set { IfOk result (λ set. set ≡ data_of vars.now) }
-    ensures refused { IfErr result (λ error. IfRefused error (IsOpenRefusal vars.now)) }
-{
-    match without_attributes(alloc, vars) {
-        Ok(set) => Ok(set),
-        Err(AttributesFault::NoData) => Err(CallError::Refused(RunFault::NoData)),
-        Err(_) => Err(CallError::OutOfMemory),
-    }
-}
-
-/// The variables with the attributes of those that are there.
-fn with(alloc: Global, vars: &Vars, there: &Vars) -> Result<Vars, CallError<RunFault>>
-    ensures kept { IfOk result (λ kept. kept ≡ with_attributes there.now vars.now) }
-    ensures refused { IfErr result (λ error. IfRefused error (λ reason. (reason ≡ RunFault.TooLong) × HasLongData vars.now)) }
-{
-    match with_attributes(alloc, vars, there) {
-        Ok(kept) => Ok(kept),
-        Err(AttributesFault::TooLong) => Err(CallError::Refused(RunFault::TooLong)),
-        Err(_) => Err(CallError::OutOfMemory),
     }
 }
 

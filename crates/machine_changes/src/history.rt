@@ -5,8 +5,9 @@ ghost use Rattle.uefi_vars.specs.BootChange.{changes_from};
 ghost use Rattle.boot_journal.specs.Cause.{IfRefused};
 
 use boot_history::{newest, push, remove, time_now};
-use boot_journal::{CallError, MachineName};
+use boot_journal::CallError;
 use change_records::{Record, Standing, standing_of};
+use machine_names::MachineName;
 use messages::Failure;
 use std::alloc::{AllocError, Global};
 use std::rt::{Clock, Files};

@@ -6,7 +6,8 @@ ghost use Rattle.machine_changes.specs.Owner.{IsOther, IsNamedBy, IsAdopted, IsT
 ghost use Rattle.boot_journal.specs.JournalAttributes.{journal_kept};
 
 use crate::storage::PlaceStorage;
-use boot_journal::{AttributesFault, Journal, JournalFile, MachineName};
+use boot_journal::{AttributesFault, Journal, JournalFile};
+use machine_names::MachineName;
 use messages::{Failure, Quoted};
 use std::alloc::Global;
 use std::io;

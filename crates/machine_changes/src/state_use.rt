@@ -3,7 +3,8 @@
 use crate::history::History;
 use crate::state_folder::{StateFolder, lock_folder};
 use boot_history::make_state_folder;
-use boot_journal::{CallError, MachineName};
+use boot_journal::CallError;
+use machine_names::MachineName;
 use messages::{Failure, note};
 use std::fs;
 use std::rt::{Clock, Files};

@@ -2,26 +2,12 @@ use Rattle.std.proofs.Common.{ℕ, List, map, refl, sym, ap, subst, ◌∙◌}
 use Rattle.std.specs.String.{string_bytes}
 use Rattle.uefi_vars.specs.Vars.{Variables}
 use Rattle.boot_requests.specs.declared.answer.Answer.{Answer}
-use Rattle.boot_requests.specs.StoredState.{OpensAs}
-use Rattle.boot_journal.specs.declared.machine.CallError.{CallError}
 use Rattle.boot_journal.specs.Attributes.{data_of}
-use Rattle.boot_journal.specs.Cause.{IfRefused}
-use Rattle.journaled_requests.specs.declared.requests.RunFault.{RunFault}
-use Rattle.journaled_requests.specs.RunFault.{IsRunFault}
-use Rattle.journaled_requests.proofs.Running.{err_then}
 use Rattle.wanted_changes.specs.LeftOut.{without_names}
 use Rattle.boot_updates.specs.Guarded.{AreMet}
 use Rattle.boot_updates.specs.Told.{AreToldBy}
 use Rattle.boot_updates.proofs.Guards.{none_is, some_is_not, guarded_so}
-use Rattle.boot_updates.proofs.OpenRefusals.{refused_so}
 use Rattle.boot_updates.proofs.requests_run.RequestsRunRun.run.Goals as goal
-
-pub returns-in_err-set-clause-refused : goal.returns-in_err-set-clause-refused
-returns-in_err-set-clause-refused c =
-    let events = c.args.self.requests.events.now in
-    err_then c.from_residual-in_err-set.result _ (λ error. IfRefused error (IsRunFault events c.args.vars.now)) c.from_residual-in_err-set.ensures.1
-    (λ error is. subst (λ (e : CallError RunFault). IfRefused e (IsRunFault events c.args.vars.now)) (sym is)
-    (refused_so events c.args.vars.now c.in_err-set.field-0.0 c.in_err-set.ensures.refused))
 
 -- something isn't as it is expected
 
@@ -34,10 +20,10 @@ returns-in-Some-clause-done c =
     let told = c.not_run.result in
     let left = c.leave_out.ensures ∙ ap (λ (v : Variables). without_names v names) c.in_ok-set.ensures.set in (
       c.not_run.ensures.journal,
-      λ m keeps. c.not_run.ensures.first ∙ c.in_ok-first.ensures m (subst (λ (v : Variables). OpensAs v m) (sym c.in_ok-set.ensures.set) keeps),
+      λ m keeps. c.not_run.ensures.first ∙ c.in_ok-set.ensures.first m keeps,
       guarded_so _ _ c.args.vars.now c.in_ok-copy.field-0 told.answers.items told.unmet c.in-Some.unmet c.not_run.ensures.unmet
           (λ (all : AreMet journal told.first vars preconditions). some_is_not c.in_ok-unmet.field-0 c.in-Some.unmet c.in-Some.is (c.in_ok-unmet.ensures.1
-          (subst (λ (v : Variables). AreMet journal c.in_ok-first.first v preconditions) (sym left)
+          (subst (λ (v : Variables). AreMet journal c.in_ok-set.field-0.first v preconditions) (sym left)
           (subst (λ (n : ℕ). AreMet journal n vars preconditions) c.not_run.ensures.first all))))
           c.in_ok-copy.ensures.equal c.not_run.ensures.none,
     )
@@ -49,11 +35,11 @@ returns-clause-done c =
     let names = map string_bytes c.args.self.left_out.now in
     let noted = c.in_ok-noted.noted in
     let left = c.leave_out.ensures ∙ ap (λ (v : Variables). without_names v names) c.in_ok-set.ensures.set in
-    let met = subst (λ (v : Variables). AreMet c.args.self.journal c.in_ok-first.first v c.args.self.preconditions.now) left
+    let met = subst (λ (v : Variables). AreMet c.args.self.journal c.in_ok-set.field-0.first v c.args.self.preconditions.now) left
     (c.in_ok-unmet.ensures.0 (none_is c.in_ok-unmet.field-0 c.in_default.not-Some)) in
-    let told = subst (λ (a : List Answer). AreToldBy noted.before c.in_ok-first.first c.args.self.requests.events.now a noted.same.items)
+    let told = subst (λ (a : List Answer). AreToldBy noted.before c.in_ok-set.field-0.first c.args.self.requests.events.now a noted.same.items)
     c.deref.ensures.value c.in_ok-noted.ensures in (
       refl,
-      λ m keeps. c.in_ok-first.ensures m (subst (λ (v : Variables). OpensAs v m) (sym c.in_ok-set.ensures.set) keeps),
-      (met, (c.in_ok-to.ensures.done, told)),
+      c.in_ok-set.ensures.first,
+      (met, (c.in_ok-set.ensures.answered, told)),
     )

@@ -1,4 +1,4 @@
--- The name by which a journal's file tells whose it is.
+-- The name by which a file tells which machine's it is.
 use Rattle.std.specs.Prelude.{◌≢◌, ℕ, ◌≤◌, List, [], length}
 use Rattle.std.specs.List.{AllByRecursion}
 use Rattle.uefi_path.specs.Row.{IsByte}

@@ -1,7 +1,7 @@
 //! Names of machines.
 
 ghost use Rattle.std.specs.Prelude.{◌≡◌, ◌↔◌, None, IfOk, IfSome, IsTrue};
-ghost use Rattle.boot_journal.specs.MachineName.{IsMachineName};
+ghost use Rattle.machine_names.specs.MachineName.{IsMachineName};
 
 use std::alloc::{AllocError, Global};
 use std::marker::Model;
@@ -9,7 +9,7 @@ use std::marker::Model;
 /// The most bytes that the name of a machine has.
 pub const MACHINE_NAME_MAX: usize = 4_096;
 
-/// The name by which a journal's file tells whose it is: 1 to 4,096 bytes, any bytes. No two machines have the same. It may
+/// The name by which a file tells which machine's it is: 1 to 4,096 bytes, any bytes. No two machines have the same. It may
 /// be the machine's UUID, the path of the place of its variables, or what a user gives.
 #[derive(Debug, Drop)]
 pub struct MachineName {
@@ -18,7 +18,7 @@ pub struct MachineName {
 
 impl Model for MachineName {
     ghost use Rattle.std.specs.Prelude.{ℕ, List};
-    ghost use Rattle.boot_journal.specs.MachineName.{IsMachineName};
+    ghost use Rattle.machine_names.specs.MachineName.{IsMachineName};
 
     ghost Value = { List ℕ };
 
@@ -41,7 +41,7 @@ impl MachineName {
     }
 
     /// The name of these bytes. This fails only if memory is refused.
-    pub(crate) fn from_slice(alloc: Global, bytes: &[u8]) -> Result<MachineName, AllocError>
+    fn from_slice(alloc: Global, bytes: &[u8]) -> Result<MachineName, AllocError>
         requires { IsMachineName bytes.now }
         ensures { IfOk result (λ name. name ≡ bytes.now) }
     {
