@@ -18,7 +18,9 @@ import sys
 import tempfile
 from dataclasses import dataclass, replace
 from pathlib import Path
-from typing import Any, Iterable
+from typing import Any, Callable, Iterable
+
+import variable_files
 
 FAMILIES = {
     "path": ["PATH"],
@@ -80,6 +82,9 @@ IDENTITY_LEN, KEPT_MAX, DIGEST_LEN = 16, 64, 8
 
 # How a change stands beside the variables of a machine, by number.
 UNCHANGED, NOT_MADE, CHANGED = range(3)
+
+# From how many bytes on a variable file of the cases is left out.
+LONG = 100_000
 
 # The statuses in the order of their numbers.
 STATUSES = ["DONE", "REFUSED", "NO_ROOM", "ABSENT", "NO_MEMORY", "CLOSED", "BAD_SIZE"]
@@ -459,17 +464,39 @@ def images_of(root: Path) -> Iterable[tuple[str, bytes, str]]:
                 yield name, image_of(part["image"], case), case["answer"]
 
 
+def pieces_of(parts: str | list[Any]) -> bytes:
+    """The bytes of a case, which are digits, or pieces one after the other."""
+    pieces = [parts] if isinstance(parts, str) else parts
+    return b"".join(
+        (bytes.fromhex(it) if isinstance(it, str) else bytes.fromhex(it["of"]) * it["times"])
+        for it in pieces
+    )
+
+
 def image_of(parts: list[Any], case: dict[str, Any]) -> bytes:
     """The bytes of an image of a case, with its changes."""
-    image = bytearray()
-    for part in parts:
-        whole = isinstance(part, str)
-        image += bytes.fromhex(part) if whole else bytes.fromhex(part["of"]) * part["times"]
+    image = bytearray(pieces_of(parts))
     for place, data in case.get("changes", {}).items():
         at, changed = int(place, 16), bytes.fromhex(data)
         image[at : at + len(changed)] = changed
     length = case.get("len", len(image))
     return bytes(image[:length].ljust(length, b"\0"))
+
+
+def written_of(root: Path) -> Iterable[tuple[bytes, dict[str, bytes], str]]:
+    """The cases of variable files that are written: the file, what a machine is to keep, and the answer. Attributes that
+    aren't given are those of no header."""
+    cases = json.loads((root / "tests/cases/var_stores.json").read_text(encoding="utf-8"))
+    written = [
+        case for part in cases if part["call"] == "write_boot_vars" for case in part["cases"]
+    ]
+    for case in written:
+        data, given = data_of(case["to"]), data_of(case.get("attributes", {}))
+        whole = {name: held[:4] for name, held in given.items() if len(held) >= 4}
+        there = {name: whole.get(name, variable_files.BLANK) for name in data}
+        answer = case["answer"]
+        told = answer if str(answer).isalpha() else digits(pieces_of(answer))
+        yield pieces_of(case["file"]), with_attributes(data, there), told
 
 
 class Cases:
@@ -492,6 +519,7 @@ class Cases:
         self.paths = [paths_of(data) for data in whole]
         self.texts = [self.text(path) for path in self.paths]
         self.images = list(images_of(root))
+        self.written = [case for case in written_of(root) if len(case[0]) < LONG]
         cases = json.loads((root / "tests/cases/named_texts.json").read_text(encoding="utf-8"))
         self.names = [
             (bytes.fromhex(case["input"]), case["answer"])
@@ -1181,6 +1209,40 @@ class Cases:
         back = set_of([*record.back(now).items()])
         return lines, [f"done {record.standing(now)}", f"done {digits(back)}"]
 
+    def store_case(self) -> tuple[str, list[str]]:
+        """What a variable file has, which is damaged at times, and what becomes of it with other variables."""
+        boot = boot_part(dict(variables_of(self.set)))
+        file = variable_files.some_file(self.chance, boot)
+        kept = variable_files.some_kept(self.chance, boot, file)
+        how = self.chance.choice(["", "", "", "anywhere", "in a number", "set"])
+        if how == "anywhere":
+            file = damage(self.chance, file)
+        elif how == "in a number":
+            file = variable_files.damaged(self.chance, file)
+        held = b"BVS2" if how == "set" else set_of([*kept.items()])
+        lines = f"store_vars {digits(file)}\nstore_with {digits(file)} {digits(held)}"
+        found = self.stored(lambda: set_of([*variable_files.vars_of(file).items()]))
+        if how == "set":
+            return lines, [found, self.refused("SET_BAD_MAGIC", 0)]
+        return lines, [found, self.stored(lambda: variable_files.file_with(file, kept))]
+
+    def stored(self, made: Callable[[], bytes]) -> str:
+        """The driver's line of what is made of a variable file."""
+        try:
+            return f"done {digits(made())}"
+        except variable_files.Refused as why:
+            return self.refused(*why.args)
+
+    def written_case(self) -> tuple[str, list[str]]:
+        """A variable file that is written, of the cases of the repository."""
+        file, kept_there, answer = self.chance.choice(self.written)
+        line = f"store_with {digits(file)} {digits(set_of([*kept_there.items()]))}"
+        is_fault = not re.fullmatch("[0-9a-f]+", answer)
+        wanted = self.refused(f"STORE_{snake(answer)}") if is_fault else f"done {answer}"
+        model = self.stored(lambda: variable_files.file_with(file, kept_there))
+        assert model == wanted, f"the case and what is worked out here don't agree: {answer}"
+        return line, [wanted]
+
     def stream(self, count: int) -> list[bytes]:
         """Frames with other numbers, some of them damaged."""
         frames = []
@@ -1318,6 +1380,8 @@ def main() -> int:
             cases.idle_case,
             cases.record_case,
             cases.undo_case,
+            cases.store_case,
+            cases.written_case,
         ]
         made = [maker() for _ in range(given.cases) for maker in makers]
     asked = "".join(f"{line}\n" for line, _ in made)
