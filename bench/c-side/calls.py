@@ -421,13 +421,20 @@ class Machine:
                     reason = 8
 
     def note(self, notes: bytes, stream: bytes) -> bytes:
-        """Runs frames, says what is noted of them, and gives the notes after them."""
+        """Runs frames, says what is noted of them, and gives the notes after them: those before them, if they are refused."""
         state = bootkeep.MachineState(b"machine", b"start", self.set, self.journal)
         with bootkeep.Moves(state, stream) as moves:
             while (move := moves.next()) is not None:
                 self.make(move)
                 moves.tell(bootkeep.Became.DONE)
-            after, places = moves.notes(notes), range(len(moves.end.replies))
+            places = range(len(moves.end.replies))
+            try:
+                after = moves.notes(notes)
+            except bootkeep.Refused as error:
+                print(refusal(error))
+                told = {answer(lambda: str(moves.same(notes, place))) for place in places}
+                assert told <= {refusal(error)}
+                return notes
             same = "".join(f" {int(moves.same(notes, place))}" for place in places)
         print(f"done {digits(after)}{same}")
         return after

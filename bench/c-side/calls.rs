@@ -394,7 +394,7 @@ impl Machine {
 }
 
 impl Machine {
-    /// Runs frames, says what is noted of them, and gives the notes after them.
+    /// Runs frames, says what is noted of them, and gives the notes after them: those before them, if they are refused.
     fn note(&mut self, notes: &[u8], stream: &[u8]) -> Result<Vec<u8>, Error> {
         let Machine { set: variables, journal } = Machine { set: self.set.clone(), journal: self.journal.clone() };
         let state = MachineState { machine: b"machine", start: b"start", variables: &variables, journal: &journal };
@@ -403,7 +403,14 @@ impl Machine {
             self.make(asked)?;
             moves.tell(Became::Done)?;
         }
-        let after = moves.notes(notes)?;
+        let after = match moves.notes(notes) {
+            Err(Error::Refused(why)) => {
+                assert_eq!(moves.same(notes, 0), Err(Error::Refused(why)));
+                println!("refused {}", numbers_of(Some(why)));
+                return Ok(notes.to_vec());
+            }
+            after => after?,
+        };
         let mut line = format!("done {}", digits(&after));
         let replies = match moves.end()? {
             End::Done { replies, .. } => replies,

@@ -20,7 +20,9 @@ from dataclasses import dataclass, replace
 from pathlib import Path
 from typing import Any, Callable, Iterable
 
+import state_files
 import variable_files
+from state_files import Refused
 
 FAMILIES = {
     "path": ["PATH"],
@@ -108,6 +110,28 @@ class Notes:
     def data(self) -> bytes:
         kept = b"".join(number.to_bytes(4, "little") + digest for number, digest in self.digests)
         return b"BKJ3" + self.identity + bytes([len(self.digests)]) + kept
+
+    @staticmethod
+    def read(data: bytes) -> Notes | None:
+        """The notes that the bytes begin with, if they begin with any.
+
+        Raises Refused if these aren't whole."""
+        if not data.startswith(b"BKJ3"):
+            return None
+        body = data[4:]
+        if len(body) <= IDENTITY_LEN:
+            raise Refused("NOTES_TRUNCATED", 4 if len(body) < IDENTITY_LEN else 4 + IDENTITY_LEN)
+        count, kept_bytes = body[IDENTITY_LEN], body[IDENTITY_LEN + 1 :]
+        size = 4 + DIGEST_LEN
+        if count > 2 * KEPT_MAX:
+            raise Refused("NOTES_TOO_MANY", 4 + IDENTITY_LEN)
+        if len(kept_bytes) < size * count:
+            raise Refused(
+                "NOTES_TRUNCATED", 4 + IDENTITY_LEN + 1 + size * (len(kept_bytes) // size)
+            )
+        pieces = [kept_bytes[at : at + size] for at in range(0, size * count, size)]
+        digests = tuple((int.from_bytes(it[:4], "little"), it[4:]) for it in pieces)
+        return Notes(body[:IDENTITY_LEN], digests)
 
     def kept_before(self, first: int) -> list[tuple[int, bytes]]:
         """The digests that count before a run that begins with this next number."""
@@ -404,20 +428,6 @@ def noted(
             applied += [(at, waiting[at]) for at in range(number, after) if at in waiting]
             waiting = {at: held for at, held in waiting.items() if at >= after}
     return replace(notes, digests=(*before, *applied[-KEPT_MAX:])), same
-
-
-def notes_fault(data: bytes) -> tuple[str, int] | None:
-    """The fault of bytes that begin as notes do, and its place."""
-    body = data[4:]
-    if len(body) <= IDENTITY_LEN:
-        return "NOTES_TRUNCATED", 4 if len(body) < IDENTITY_LEN else 4 + IDENTITY_LEN
-    count, kept = body[IDENTITY_LEN], body[IDENTITY_LEN + 1 :]
-    if count > 2 * KEPT_MAX:
-        return "NOTES_TOO_MANY", 4 + IDENTITY_LEN
-    size = 4 + DIGEST_LEN
-    if len(kept) < size * count:
-        return "NOTES_TRUNCATED", 4 + IDENTITY_LEN + 1 + size * (len(kept) // size)
-    return None
 
 
 def kept(data: dict[str, bytes]) -> dict[str, bytes]:
@@ -1033,8 +1043,19 @@ class Cases:
             return self.refused("PUT_DATA_TOO_LONG" if value else "PUT_EMPTY_DATA")
         return f"done {digits(set_of([(held.decode(), data) for held, data in {**variables, name: value}.items()]))}"
 
-    def refused(self, kind: str, place: int = NO_PLACE) -> str:
-        return f"refused {self.side.kinds[kind]} 0 {place} {NO_PLACE}"
+    def refused(
+        self, kind: str, place: int = NO_PLACE, inner: int = 0, inner_place: int = NO_PLACE
+    ) -> str:
+        return f"refused {self.side.kinds[kind]} {inner} {place} {inner_place}"
+
+    def told_of(self, made: Callable[[], str]) -> str:
+        """The driver's line of an answer, or of why there is none: it is refused, or there is no such part."""
+        try:
+            return f"done {made()}".rstrip()
+        except Refused as why:
+            return self.refused(*why.args)
+        except IndexError:
+            return f"status {ABSENT}"
 
     def some_notes(self) -> Notes:
         """Notes with some digests."""
@@ -1054,21 +1075,32 @@ class Cases:
         made = f"done {digits(Notes(identity).data())}"
         if len(identity) != IDENTITY_LEN:
             made = self.refused("NOTES_BAD_IDENTITY")
-        if not data.startswith(b"BKJ3"):
-            return lines, ["done 0", f"status {ABSENT}", made]
-        fault = notes_fault(data)
-        if fault is not None:
-            return lines, [self.refused(*fault), self.refused(*fault), made]
-        taken = 21 + (4 + DIGEST_LEN) * data[20]
-        return lines, [f"done {taken}", f"done {digits(data[4:20])}", made]
+        taken = self.told_of(lambda: str(len(self.notes_in(data))))
+        if taken == "done 0":
+            return lines, [taken, f"status {ABSENT}", made]
+        return lines, [taken, self.told_of(lambda: digits(self.notes_in(data)[4:20])), made]
+
+    def notes_in(self, data: bytes) -> bytes:
+        """The notes that the bytes begin with."""
+        notes = Notes.read(data)
+        return b"" if notes is None else notes.data()
 
     def noted_case(self) -> tuple[str, list[str]]:
-        """Two commands of frames over a machine, and what is noted of each, at times without notes before them."""
+        """Two commands of frames over a machine, and what is noted of each, at times with no notes before them, or with damaged
+        ones."""
         streams = [self.stream(self.chance.choice([0, 3, 6, 90])) for _ in "12"]
-        notes = self.some_notes() if self.chance.randrange(4) else None
-        data = kept(dict(variables_of(self.set)))
-        words = [set_of([*data.items()]), b"" if notes is None else notes.data()]
+        given = self.some_notes().data() if self.chance.randrange(4) else b""
+        if self.chance.randrange(4) == 0:
+            given = damage(self.chance, given)
+        words = [set_of([*kept(dict(variables_of(self.set))).items()]), given]
         line = f"noted {' '.join(map(digits, [*words, *map(b''.join, streams)]))}"
+        try:
+            return line, self.noted_lines(Notes.read(given), streams)
+        except Refused as why:
+            return line, [self.refused(*why.args)] * len(streams)
+
+    def noted_lines(self, notes: Notes | None, streams: list[list[bytes]]) -> list[str]:
+        """What is noted of each of these commands."""
         held, first, wanted = self.set, 0, []
         for frames in streams:
             held, lines = self.after_run(held, b"".join(frames))
@@ -1080,7 +1112,7 @@ class Cases:
             told = same if notes is not None else [0] * len(same)
             spelled = "-" if notes is None else digits(notes.data())
             wanted.append(f"done {spelled}{''.join(f' {number}' for number in told)}")
-        return line, wanted
+        return wanted
 
     def after_run(self, data: bytes, stream: bytes) -> tuple[bytes, list[str]]:
         """The set after a stream, and the lines of the replies."""
@@ -1092,20 +1124,13 @@ class Cases:
 
     def idle_case(self) -> tuple[str, list[str]]:
         """A journal of which nothing is left to do, or something, or none, or bytes that are no journal."""
-        journal = journal_of(self.chance.randbytes(self.chance.choice([0, 5])))
-        begun = journal + b"\1\5start" + bytes(4)
-        data, wanted = self.chance.choice(
-            [
-                (b"", "done 1"),
-                (journal, "done 1"),
-                (begun, "done 0"),
-                (journal + b"\2\5start", "done 0"),
-                (journal + b"\3", self.refused("JOURNAL_BAD_COURSE", len(journal))),
-                (begun[:-1], self.refused("JOURNAL_TRUNCATED", len(begun) - 4)),
-                (Notes(bytes(IDENTITY_LEN)).data(), self.refused("JOURNAL_BAD_MAGIC")),
-            ]
-        )
-        return f"journal_is_idle {digits(data)}", [wanted]
+        journal = state_files.some_journal(self.chance)
+        others = [b"", journal_of(b""), self.some_notes().data() + journal]
+        data = self.chance.choice([journal] * 3 + others)
+        if self.chance.randrange(2):
+            data = damage(self.chance, data)
+        idle = self.told_of(lambda: str(int(state_files.is_idle(data))))
+        return f"journal_is_idle {digits(data)}", [idle]
 
     def some_boot_variables(self) -> dict[str, bytes]:
         """Some of the variables of the examples, as a machine keeps them, and at times a Timeout and a BootNext."""
@@ -1146,51 +1171,58 @@ class Cases:
             wanted = self.refused("SET_BAD_MAGIC", 0)
         given = [machine, record.time.to_bytes(8, "little"), *held, words]
         number = self.chance.randrange(5)
-        data, told = self.damaged_record(record)
+        data = self.damaged_record(record)
         lines = [
             f"record_make {' '.join(map(digits, given))}",
             f"record_parts {digits(data)}",
             f"record_word {digits(data)} {long_bytes([number]).hex()}",
         ]
-        if told:
-            return "\n".join(lines), [wanted, told, told]
-        name, _, before, after, *kept_words = record.fields()
+        parts = self.told_of(lambda: self.parts_of(data))
+        word = self.told_of(lambda: digits(self.record_in(data).words[number]))
+        return "\n".join(lines), [wanted, parts, word]
+
+    def parts_of(self, data: bytes) -> str:
+        """The places of the parts of a record, as the drivers say them."""
+        record = self.record_in(data)
+        name, _, before, after, *words = record.fields()
         first = 8 + len(name) + 16
         second = first + len(before) + 4
         places = [8, len(name), record.time, first, len(before), second, len(after)]
-        word = f"status {ABSENT}"
-        if number < len(kept_words):
-            word = f"done {digits(kept_words[number])}"
-        parts = f"done {' '.join(map(str, [*places, len(kept_words)]))}"
-        return "\n".join(lines), [wanted, parts, word]
+        return " ".join(map(str, [*places, len(words)]))
 
-    def damaged_record(self, record: Record) -> tuple[bytes, str]:
-        """The bytes of a record, perhaps damaged, and then why they aren't one."""
+    def record_in(self, data: bytes) -> Record:
+        """The record of these bytes.
+
+        Raises Refused if there is none."""
+        machine, time, *sets_and_words = state_files.record_fields(data)
+        before, after, *words = sets_and_words
+        for name, held in (("BEFORE", before), ("AFTER", after)):
+            told = self.side.ask("show", self.side.file("set", held))[2]
+            if told and "BadOrder" not in told and "BadNext" not in told:
+                _, inner, _, place, _ = self.side.refusal("set", told).split()
+                raise Refused(f"RECORD_BAD_{name}", NO_PLACE, int(inner), int(place))
+        for number, word in enumerate(words):
+            if word.decode(errors="ignore").encode() != word:
+                raise Refused("RECORD_BAD_WORD", number)
+        sets = dict(variables_of(before)), dict(variables_of(after))
+        return Record(machine, int.from_bytes(time, "little"), *sets, tuple(words))
+
+    def damaged_record(self, record: Record) -> bytes:
+        """The bytes of a record, perhaps damaged."""
         data, fields = record.data(), record.fields()
-        wrong = self.chance.choice(["", "", "magic", "cut", "few", "word", "before", "time"])
-        if wrong == "magic":
-            return b"BKH2" + data[4:], self.refused("RECORD_BAD_MAGIC")
-        if wrong == "cut":
-            field = self.chance.randrange(len(fields))
-            place = 4 + sum(4 + len(it) for it in fields[:field])
-            end = place + self.chance.randrange(1, 4 + max(1, len(fields[field])))
-            cut = data[: min(end, place + 3 + len(fields[field]))]
-            return cut, self.refused("RECORD_TRUNCATED", place)
-        if wrong == "few":
-            few = b"BKH1" + b"".join(len(it).to_bytes(4, "little") + it for it in fields[:3])
-            return few, self.refused("RECORD_TOO_FEW_FIELDS")
-        if wrong == "word":
-            return data + b"\1\0\0\0\xff", self.refused("RECORD_BAD_WORD", len(record.words))
-        if wrong == "before":
-            place = 4 + sum(4 + len(it) for it in fields[:2]) + 4
-            bad = data[:place] + b"BVS2" + data[place + 4 :]
-            kinds = self.side.kinds["RECORD_BAD_BEFORE"], self.side.kinds["SET_BAD_MAGIC"]
-            return bad, f"refused {kinds[0]} {kinds[1]} {NO_PLACE} 0"
+        wrong = self.chance.choice(
+            ["", "", "bytes", "bytes", "magic", "few", "word", "set", "time"]
+        )
+        changed = {"magic": b"BKH2" + data[4:], "word": data + b"\1\0\0\0\xff"}
+        changed["few"] = b"BKH1" + b"".join(map(state_files.with_length, fields[:3]))
         if wrong == "time":
-            short = [fields[0], fields[1][:7], *fields[2:]]
-            bad = b"BKH1" + b"".join(len(it).to_bytes(4, "little") + it for it in short)
-            return bad, self.refused("RECORD_BAD_TIME")
-        return data, ""
+            fields[1] = fields[1][:7]
+        if wrong == "set":
+            at = self.chance.choice([2, 3])
+            fields[at] = damage(self.chance, fields[at])
+        changed["set"] = changed["time"] = b"BKH1" + b"".join(map(state_files.with_length, fields))
+        changed["bytes"] = damage(self.chance, data)
+        return changed.get(wrong, data)
 
     def undo_case(self) -> tuple[str, list[str]]:
         """How a change stands that was recorded, and what undoes it, beside what a machine has now."""
@@ -1199,15 +1231,15 @@ class Cases:
         for name in ("BootNext", "Timeout"):
             if self.chance.randrange(3) == 0:
                 now = without(now, name)
-        data, told = self.damaged_record(record)
-        held = set_of([*now.items()])
-        if self.chance.randrange(8) == 0:
-            held, told = b"BVS2", told or self.refused("SET_BAD_MAGIC", 0)
+        data, held = self.damaged_record(record), set_of([*now.items()])
+        is_set = self.chance.randrange(8) > 0
+        held = held if is_set else b"BVS2"
         lines = f"record_standing {digits(data)} {digits(held)}\nrecord_back {digits(data)} {digits(held)}"
-        if told:
-            return lines, [told, told]
-        back = set_of([*record.back(now).items()])
-        return lines, [f"done {record.standing(now)}", f"done {digits(back)}"]
+        standing = self.told_of(lambda: str(self.record_in(data).standing(now)))
+        back = self.told_of(lambda: digits(set_of([*self.record_in(data).back(now).items()])))
+        if not is_set and standing.startswith("done"):
+            return lines, [self.refused("SET_BAD_MAGIC", 0)] * 2
+        return lines, [standing, back]
 
     def store_case(self) -> tuple[str, list[str]]:
         """What a variable file has, which is damaged at times, and what becomes of it with other variables."""
@@ -1221,17 +1253,10 @@ class Cases:
             file = variable_files.damaged(self.chance, file)
         held = b"BVS2" if how == "set" else set_of([*kept.items()])
         lines = f"store_vars {digits(file)}\nstore_with {digits(file)} {digits(held)}"
-        found = self.stored(lambda: set_of([*variable_files.vars_of(file).items()]))
+        found = self.told_of(lambda: digits(set_of([*variable_files.vars_of(file).items()])))
         if how == "set":
             return lines, [found, self.refused("SET_BAD_MAGIC", 0)]
-        return lines, [found, self.stored(lambda: variable_files.file_with(file, kept))]
-
-    def stored(self, made: Callable[[], bytes]) -> str:
-        """The driver's line of what is made of a variable file."""
-        try:
-            return f"done {digits(made())}"
-        except variable_files.Refused as why:
-            return self.refused(*why.args)
+        return lines, [found, self.told_of(lambda: digits(variable_files.file_with(file, kept)))]
 
     def written_case(self) -> tuple[str, list[str]]:
         """A variable file that is written, of the cases of the repository."""
@@ -1239,7 +1264,7 @@ class Cases:
         line = f"store_with {digits(file)} {digits(set_of([*kept_there.items()]))}"
         is_fault = not re.fullmatch("[0-9a-f]+", answer)
         wanted = self.refused(f"STORE_{snake(answer)}") if is_fault else f"done {answer}"
-        model = self.stored(lambda: variable_files.file_with(file, kept_there))
+        model = self.told_of(lambda: digits(variable_files.file_with(file, kept_there)))
         assert model == wanted, f"the case and what is worked out here don't agree: {answer}"
         return line, [wanted]
 

@@ -17,6 +17,7 @@
 
 #include <bootkeep.h>
 #include <inttypes.h>
+#include <limits.h>
 #include <stdio.h>
 #include <stdlib.h>
 #include <string.h>
@@ -241,6 +242,13 @@ static void close_hard(struct bootkeep_moves *moves, bool was_open)
         complain("closing says something else, or the command is open after it");
 }
 
+/* Says why something is refused. */
+static void say_refusal(const struct bootkeep_refusal *refusal)
+{
+    printf("refused %" PRIu32 " %" PRIu32 " %zu %zu\n", refusal->kind, refusal->inner_kind, refusal->place,
+           refusal->inner_place);
+}
+
 /* Runs a command, and says how it ended, that it was cut, or why it isn't begun. */
 static void run(struct machine *machine, const struct wanted *wanted, struct bytes answers)
 {
@@ -249,8 +257,7 @@ static void run(struct machine *machine, const struct wanted *wanted, struct byt
     uint32_t status = begin_hard(&moves, machine, wanted, &refusal);
 
     if (status == BOOTKEEP_REFUSED)
-        printf("refused %" PRIu32 " %" PRIu32 " %zu %zu\n", refusal.kind, refusal.inner_kind, refusal.place,
-               refusal.inner_place);
+        say_refusal(&refusal);
     else if (make_moves(machine, &moves, answers))
         say_end(&moves);
     else
@@ -271,49 +278,83 @@ static void settle(struct machine *machine)
     close_hard(&moves, true);
 }
 
-/* The notes after a command, which are asked for without room, and with requests for memory refused, first. */
-static struct bytes notes_after(struct bootkeep_moves *moves, struct bytes before)
+/* Asks for the notes after a command, without room, and with requests for memory refused, first. */
+static uint32_t notes_after(struct bootkeep_moves *moves, struct bytes before, struct bytes *after,
+                            struct bootkeep_refusal *refusal)
 {
-    struct bytes after = {make(BOOTKEEP_NOTES_MAX), UINT32_MAX};
-    struct bootkeep_refusal refusal;
-    uint32_t status = bootkeep_moves_notes(moves, BYTES(before), NULL, 0, &after.len, &refusal);
+    uint32_t status = bootkeep_moves_notes(moves, BYTES(before), NULL, 0, &after->len, refusal);
 
-    if (status != (after.len > 0 ? BOOTKEEP_NO_ROOM : BOOTKEEP_DONE) || after.len > BOOTKEEP_NOTES_MAX)
+    if (status != BOOTKEEP_REFUSED &&
+        (status != (after->len > 0 ? BOOTKEEP_NO_ROOM : BOOTKEEP_DONE) || after->len > BOOTKEEP_NOTES_MAX))
         complain("the length of notes isn't told");
     for (unsigned long at = 1;; at = later(at)) {
         refuse_at = at;
         was_refused = false;
-        status = bootkeep_moves_notes(moves, BYTES(before), after.at, BOOTKEEP_NOTES_MAX, &after.len, &refusal);
+        status = bootkeep_moves_notes(moves, BYTES(before), after->at, BOOTKEEP_NOTES_MAX, &after->len, refusal);
         refuse_at = 0;
         if (!was_refused)
             break;
         if (status != BOOTKEEP_NO_MEMORY)
             complain("a request for memory was refused, and notes are given");
     }
-    if (status != BOOTKEEP_DONE)
+    if (status != BOOTKEEP_DONE && status != BOOTKEEP_REFUSED)
         complain("notes aren't given");
-    return after;
+    return status;
+}
+
+/* Whether a frame is the one that was applied under its number, which is asked for with requests for memory refused
+ * first: of the first frame with many, and of the others with one, since each call looks at all frames. */
+static uint32_t same_hard(struct bootkeep_moves *moves, struct bytes before, size_t place)
+{
+    struct bootkeep_refusal refusal;
+    uint32_t same = UINT32_MAX, status;
+
+    was_refused = true;
+    for (unsigned long at = 1; was_refused; at = place == 0 ? later(at) : ULONG_MAX) {
+        refuse_at = at;
+        was_refused = false;
+        status = bootkeep_moves_same(moves, BYTES(before), place, &same, &refusal);
+        refuse_at = 0;
+        if (status != (was_refused ? BOOTKEEP_NO_MEMORY : BOOTKEEP_DONE))
+            complain("a request for memory was refused, and a frame is compared");
+    }
+    return same;
 }
 
 /* Says whether each frame is the one that was applied under its number, and that there are no more. */
 static void say_same(struct bootkeep_moves *moves, struct bytes before, size_t count)
 {
     struct bootkeep_refusal refusal;
-    uint32_t same, status;
+    uint32_t same;
 
-    for (size_t at = 0; at < count; at++) {
-        refuse_at = 1;
-        was_refused = false;
-        status = bootkeep_moves_same(moves, BYTES(before), at, &same, &refusal);
-        refuse_at = 0;
-        if (status != (was_refused ? BOOTKEEP_NO_MEMORY : BOOTKEEP_DONE))
-            complain("a request for memory was refused, and a frame is compared");
-        if (bootkeep_moves_same(moves, BYTES(before), at, &same, &refusal) != BOOTKEEP_DONE)
-            complain("a frame isn't compared");
-        printf(" %" PRIu32, same);
-    }
+    for (size_t at = 0; at < count; at++)
+        printf(" %" PRIu32, same_hard(moves, before, at));
     if (bootkeep_moves_same(moves, BYTES(before), count, &same, &refusal) != BOOTKEEP_ABSENT)
         complain("a frame is compared that there isn't");
+    putchar('\n');
+}
+
+/* Says what is noted of a command that has ended, or why its notes are refused, at which the notes stay those before
+ * it. */
+static struct bytes say_notes(struct bootkeep_moves *moves, struct bytes before)
+{
+    struct bytes after = {make(BOOTKEEP_NOTES_MAX + before.len), UINT32_MAX};
+    struct bootkeep_refusal refusal, other;
+    uint32_t same = UINT32_MAX;
+
+    if (notes_after(moves, before, &after, &refusal) == BOOTKEEP_DONE) {
+        fputs("done", stdout);
+        print_bytes(BYTES(after));
+        say_same(moves, before, end_of(moves).replies);
+        return after;
+    }
+    say_refusal(&refusal);
+    if (bootkeep_moves_same(moves, BYTES(before), 0, &same, &other) != BOOTKEEP_REFUSED ||
+        memcmp(&other, &refusal, sizeof other) != 0)
+        complain("a frame is compared by notes that are refused");
+    memcpy(after.at, before.at, before.len);
+    after.len = before.len;
+    return after;
 }
 
 /* Runs frames, says what is noted of them, and gives the notes after them. Before the command has ended, and once it is
@@ -332,11 +373,7 @@ static struct bytes note(struct machine *machine, struct bytes before, struct by
         bootkeep_moves_same(&moves, BYTES(before), 0, &same, &refusal) != BOOTKEEP_ABSENT)
         complain("notes are told of a command that hasn't ended");
     make_moves(machine, &moves, (struct bytes){NULL, 0});
-    after = notes_after(&moves, before);
-    fputs("done", stdout);
-    print_bytes(BYTES(after));
-    say_same(&moves, before, end_of(&moves).replies);
-    putchar('\n');
+    after = say_notes(&moves, before);
     close_hard(&moves, true);
     if (bootkeep_moves_notes(&moves, BYTES(before), NULL, 0, &len, &refusal) != BOOTKEEP_CLOSED ||
         bootkeep_moves_same(&moves, BYTES(before), 0, &same, &refusal) != BOOTKEEP_CLOSED)

@@ -11,6 +11,8 @@ import sys
 from dataclasses import dataclass, replace
 from pathlib import Path
 
+from state_files import Refused
+
 sys.path.append(str(Path(__file__).resolve().parent.parent))
 
 import ovmf_store  # noqa: E402
@@ -26,10 +28,6 @@ DATA_MAX, NEW = 1 << 20, b"\7\0\0\0"
 
 OTHER_GUID = bytes(range(16))
 OTHER_NAMES = ["Lang", "PlatformLang", "BootOptionSupport", "Boot00zz", "K" * 64, "K" * 65, ""]
-
-
-class Refused(Exception):
-    """Why a file has no variables, or can't have those of a set: the name of the refusal, and the place."""
 
 
 @dataclass(frozen=True)
