@@ -15,7 +15,9 @@ ROOT = Path(__file__).resolve().parents[1]
 sys.path.insert(0, str(ROOT / "tools"))
 
 import call_header  # noqa: E402
+import call_manual_files  # noqa: E402
 import call_manuals  # noqa: E402
+import linux_manuals  # noqa: E402
 import declarations  # noqa: E402
 from call_header import Row  # noqa: E402
 
@@ -204,9 +206,65 @@ class ThisHeader(unittest.TestCase):
         out = io.StringIO()
         with tempfile.TemporaryDirectory() as folder:
             with contextlib.redirect_stdout(out), contextlib.redirect_stderr(out):
-                self.assertEqual(call_manuals.main([f"{folder}/made"]), 0)
-                self.assertEqual(call_manuals.main([]), 2)
-            self.assertEqual(len(list(Path(folder, "made").iterdir())), len(self.header.calls))
+                self.assertEqual(call_manual_files.main([f"{folder}/made"]), 0)
+                self.assertEqual(call_manual_files.main([]), 2)
+            made = {it.stem for it in Path(folder, "made").iterdir()}
+            self.assertLess({it.name for it in self.header.calls}, made)
+
+
+class LinuxHeader(unittest.TestCase):
+    """The manuals of the calls over a Linux machine."""
+
+    def setUp(self) -> None:
+        text = call_header.LINUX_HEADER.read_text(encoding="utf-8")
+        self.declared = re.findall(r"^(?:uint32_t|void) (bootkeep_\w+)\(", text, re.MULTILINE)
+        self.made = {name: it.decode() for name, it in linux_manuals.manuals().items()}
+
+    def section(self, call: str, name: str) -> str:
+        """A section of the manual of a call."""
+        text = self.made[f"{call}.3"]
+        found = re.search(rf"^\.Sh {name}\n(.*?)(?=^\.Sh |\Z)", text, re.DOTALL | re.MULTILINE)
+        assert found is not None, (call, name)
+        return found[1]
+
+    def test_each_call_has_one_that_says_something(self) -> None:
+        self.assertEqual(list(self.made), [f"{it}.3" for it in self.declared])
+        for call in self.declared:
+            self.assertGreater(len(self.section(call, "DESCRIPTION")), 40, call)
+            self.assertIn(".Xr bootkeep-linux 3", self.section(call, "SEE ALSO"))
+
+    def test_the_overview_has_each_call_once(self) -> None:
+        overview = linux_manuals.OVERVIEW.read_text(encoding="utf-8")
+        named = re.findall(r"Fn (bootkeep_machine_\w+)", overview)
+        self.assertEqual(sorted(named), sorted(self.declared))
+        self.assertEqual(sorted(linux_manuals.summaries(overview)), sorted(self.declared))
+
+    def test_what_all_changes_answer_is_said_of_each(self) -> None:
+        common = [".It Dv BOOTKEEP_MACHINE_UNSETTLED\n", ".It Dv BOOTKEEP_MACHINE_BUSY\n"]
+        for call in self.declared:
+            is_change = ' *change"' in self.section(call, "SYNOPSIS")
+            answers = self.section(call, "RETURN VALUES")
+            self.assertEqual([it in answers for it in common], [is_change] * 2, call)
+        undo = self.section("bootkeep_machine_undo", "RETURN VALUES")
+        self.assertIn(".It Dv BOOTKEEP_MACHINE_CHANGED\nSomething else has changed since", undo)
+        self.assertNotIn("DRY_RUN", undo)
+
+    def test_what_is_said_of_several_calls_is_said_of_each(self) -> None:
+        for call in ("remove", "activate", "first"):
+            parameters = self.section(f"bootkeep_machine_{call}", "PARAMETERS")
+            self.assertIn(".It Fa numbers , numbers_len\nThe numbers, in their", parameters)
+        self.assertNotIn("struct bootkeep_machine_change {", self.made["bootkeep_machine_undo.3"])
+        self.assertIn("struct bootkeep_machine_change {", self.made["bootkeep_machine_add.3"])
+
+    def test_a_call_that_answers_nothing(self) -> None:
+        self.assertIn(".Ft void\n", self.section("bootkeep_machine_close", "SYNOPSIS"))
+        self.assertEqual(self.section("bootkeep_machine_close", "RETURN VALUES"), "None.\n")
+
+    def test_the_fault_is_told_of_by_the_others(self) -> None:
+        leads = "Why it failed\n.Xr bootkeep_machine_fault 3\ntells.\n"
+        for call, is_told in (("undo", True), ("fault", False), ("open", False)):
+            answers = self.section(f"bootkeep_machine_{call}", "RETURN VALUES")
+            self.assertEqual(leads in answers, is_told, call)
 
 
 if __name__ == "__main__":

@@ -14,7 +14,7 @@ from typing import List
 ROOT = Path(__file__).resolve().parents[1]
 sys.path.insert(0, str(ROOT / "tools"))
 
-import call_manuals  # noqa: E402
+import call_manual_files  # noqa: E402
 import command_rows  # noqa: E402
 
 FOLDER = ROOT / "packaging/man"
@@ -34,7 +34,7 @@ class Written(unittest.TestCase):
 
     def test_those_of_calls(self) -> None:
         with tempfile.TemporaryDirectory() as folder:
-            for name, text in call_manuals.manuals().items():
+            for name, text in call_manual_files.manuals().items():
                 Path(folder, name).write_bytes(text)
             self.assertEqual(self.lint(sorted(Path(folder).iterdir())), "")
 

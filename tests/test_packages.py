@@ -27,6 +27,7 @@ import repository  # noqa: E402
 from file_tree import PROGRAM_MODE, File, FileTree  # noqa: E402
 
 HEADER = ROOT / "libraries/c/include/bootkeep.h"
+LINUX_HEADER = HEADER.with_name("bootkeep-linux.h")
 
 MOMENT = 1_700_000_000
 """Tue, 14 Nov 2023 22:13:20, as `date -u -d @1700000000` says."""
@@ -269,7 +270,8 @@ class Places(unittest.TestCase):
             files = package_files.development_files(self.made, place, examples).files
             names = {it.rpartition("/")[2].partition(".")[0] for it in files if "/man3/" in it}
             declared = {it.name for it in declarations.header_calls(declarations.read(HEADER))}
-            self.assertEqual(names, {"bootkeep", "bootkeep-linux", *declared})
+            over_linux = re.findall(r"\b(bootkeep_machine_\w+)\(", declarations.read(LINUX_HEADER))
+            self.assertEqual(names, {"bootkeep", "bootkeep-linux", *declared, *over_linux})
 
     def test_pages_for_callers_are_beside_the_header(self) -> None:
         for place, package in (

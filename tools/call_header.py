@@ -9,17 +9,19 @@ from typing import Dict, List, NamedTuple, Optional
 from repository import ROOT
 
 HEADER = ROOT / "libraries/c/include/bootkeep.h"
+LINUX_HEADER = ROOT / "libraries/c/include/bootkeep-linux.h"
 
 PIECE = re.compile(
-    r"^/\* -{4} (?P<title>[\w ]+?) -+ \*/$"
+    r"^/\* -{4} (?P<title>[\w ,]+?) -+ \*/$"
     r"|^(?P<comment>/\*.*?\*/)$"
     r"|^#define (?P<constant>BOOTKEEP_[A-Z0-9_]+) \S+$"
     r"|^struct (?P<struct>\w+) \{.*?^\};$"
-    r"|^uint32_t (?P<call>bootkeep_\w+)\((?P<handed>[^;]*?)\)[^;()]*(?:\(\([^;]*\)\))?;$"
+    r"|^(?P<gives>uint32_t|void(?= bootkeep_machine)) (?P<call>bootkeep_\w+)\((?P<handed>[^;]*?)\)[^;()]*(?:\(\([^;]*\)\))?;$"
     r"|^(?P<other>\S.*?)$",
     re.DOTALL | re.MULTILINE,
 )
-"""A part of the header: a title, a comment, a declaration, or a line that is none of these."""
+"""A part of the header: a title, a comment, a declaration, or a line that is none of these. What a program in firmware
+defines for the library is no call."""
 
 ROW = re.compile(r"^ {4}(?P<names>\w+(?:, \w+)*)(?: {2,}(?P<says>\S.*))?$")
 """The first line of a row of what a comment lists."""
@@ -82,6 +84,10 @@ class Call:
     """What it is handed, each with its type."""
     about: List[Comment]
     """What is said of it, and then what is said of it and others, if its statuses are there."""
+    shared: Comment
+    """What is said of it and others, wherever its statuses are."""
+    gives: str
+    """The type of what it answers."""
 
     def parameters(self) -> List[str]:
         """The names of what it is handed."""
@@ -106,6 +112,8 @@ class Header:
     structs: Dict[str, Struct] = field(default_factory=dict)
     constants: Dict[str, List[Constant]] = field(default_factory=dict)
     """By the title of their part."""
+    comments: List[Comment] = field(default_factory=list)
+    """All of them."""
 
 
 def lines_of(comment: str) -> List[str]:
@@ -164,6 +172,7 @@ class Reader:
         elif piece["comment"]:
             self.shared = self.pending or self.shared
             self.pending = read_comment(piece["comment"])
+            self.header.comments.append(self.pending)
         elif piece["other"]:
             self.end_introduction()
         else:
@@ -192,4 +201,5 @@ class Reader:
                 about.append(self.shared)
             handed = [" ".join(it.split()) for it in piece["handed"].split(",")]
             handed = [] if handed == ["void"] else handed
-            self.header.calls.append(Call(piece["call"], self.title, handed, about))
+            named = piece["call"], self.title, handed
+            self.header.calls.append(Call(*named, about, self.shared, piece["gives"]))

@@ -3,9 +3,7 @@
 from __future__ import annotations
 
 import re
-import sys
-from pathlib import Path
-from typing import Dict, Iterator, List, Tuple
+from typing import Dict, Iterable, Iterator, List, Tuple
 
 import mdoc
 from call_header import HEADER, REFUSALS, STATUSES, Call, Constant, Header, Row, read_header
@@ -64,7 +62,12 @@ def manuals() -> Dict[str, bytes]:
     Raises NoManual if one can't be made."""
     header = read_header(HEADER.read_text(encoding="utf-8"))
     overview = OVERVIEW.read_text(encoding="utf-8")
-    return {f"{it.name}.3": Manual(header, it, overview).data() for it in header.calls}
+    return manual_files(Manual(header, it, overview) for it in header.calls)
+
+
+def manual_files(made: Iterable[Manual]) -> Dict[str, bytes]:
+    """Manuals by the names of their files."""
+    return {f"{it.call.name}.3": it.data() for it in made}
 
 
 class Manual:
@@ -93,28 +96,31 @@ class Manual:
 
     def head(self) -> List[str]:
         """The title, and what the call is for."""
-        summaries = dict(SUMMARY.findall(self.overview))
-        dated = re.match(r"\.Dd .*", self.overview)
-        name = self.call.name
-        if name not in summaries or dated is None:
-            raise NoManual(f"bootkeep.3 has no line on {name}")
-        about = summaries[name].rstrip(".")
+        dated, name = self.overview.partition("\n")[0], self.call.name
+        about = self.summary().rstrip(".")
         about = about[:1].lower() + about[1:]
-        title = [dated[0], f".Dt {name.upper()} 3", ".Os"]
+        title = [dated, f".Dt {name.upper()} 3", ".Os"]
         return [*title, ".Sh NAME", f".Nm {name}", f".Nd {about}"]
+
+    def summary(self) -> str:
+        """What it is for, as the overview has it.
+
+        Raises NoManual if that says nothing of it."""
+        said = dict(SUMMARY.findall(self.overview))
+        if self.call.name not in said:
+            raise NoManual(f"bootkeep.3 has no line on {self.call.name}")
+        return str(said[self.call.name])
 
     def synopsis(self) -> List[str]:
         """How it is called."""
         handed = [f'.Fa "{it}"' for it in self.call.handed or ["void"]]
-        called = [".Ft uint32_t", f".Fo {self.call.name}", *handed, ".Fc"]
-        return [
-            ".Sh LIBRARY",
-            ".Nm libbootkeep",
-            ".Pq Fl lbootkeep",
-            ".Sh SYNOPSIS",
-            ".In bootkeep.h",
-            *called,
-        ]
+        called = [f".Ft {self.call.gives}", f".Fo {self.call.name}", *handed, ".Fc"]
+        return [*self.library(), *called]
+
+    def library(self) -> List[str]:
+        """Where it is, and where it is declared."""
+        library = [".Sh LIBRARY", ".Nm libbootkeep", ".Pq Fl lbootkeep"]
+        return [*library, ".Sh SYNOPSIS", ".In bootkeep.h"]
 
     # ---- Texts
 
@@ -142,8 +148,12 @@ class Manual:
         """The macro of something whose name is like that of a call."""
         if name == self.call.name:
             return f"Fn {name}"
-        is_call = any(it.name == name for it in self.header.calls)
+        is_call = any(it.name == name for it in self.known_calls())
         return f"Xr {name} 3" if is_call else f"Li {name}"
+
+    def known_calls(self) -> List[Call]:
+        """The calls that have a manual."""
+        return self.header.calls
 
     def fields(self) -> List[str]:
         """The names of the fields of structs."""
@@ -152,8 +162,7 @@ class Manual:
 
     def description(self) -> List[str]:
         """What it does, and the structs and numbers that belong to it."""
-        paragraphs = [it for comment in self.call.about for it in comment.paragraphs]
-        lines = joined([self.text(it) for it in paragraphs])
+        lines = joined([self.text(it) for it in self.paragraphs()])
         for name in self.structs():
             struct = self.header.structs[name]
             said = joined([self.text(it) for it in struct.about.paragraphs])
@@ -162,6 +171,10 @@ class Manual:
         if constants:
             lines += [".Ss Numbers", *self.constant_list(constants)]
         return lines
+
+    def paragraphs(self) -> List[str]:
+        """What the header says of it."""
+        return [it for comment in self.call.about for it in comment.paragraphs]
 
     def structs(self) -> List[str]:
         """The structs that are described here."""
@@ -176,21 +189,29 @@ class Manual:
         for row in self.rows_of_parameters():
             names = [it for it in row.names if it in self.call.parameters()]
             lines += [f".It Fa {' , '.join(names)}", *self.text(sentence(row.says))]
-        return [*lines, ".El", ".Pp", "What all calls have in common is in", ".Xr bootkeep 3 ."]
+        common = f".Xr {self.overview_name()} 3 ."
+        return [*lines, ".El", ".Pp", "What all calls have in common is in", common]
+
+    def overview_name(self) -> str:
+        """The name of the manual of all calls."""
+        return "bootkeep"
 
     def rows_of_parameters(self) -> Iterator[Row]:
         """What is said of each parameter, in the order in which the call is handed them.
 
         Raises NoManual if nothing is said of one."""
-        own = [it for it in self.call.rows() if not it.is_of_statuses()]
-        left = self.call.parameters()
+        own, left = self.own_rows(), self.call.parameters()
         while left:
             rows = [it for it in (*own, *self.header.parameters) if left[0] in it.names]
             said = [it for it in rows if set(it.names) <= set(self.call.parameters())]
             if not said:
-                raise NoManual(f"bootkeep.h doesn't say what {left[0]} of {self.call.name} is")
+                raise NoManual(f"the header doesn't say what {left[0]} of {self.call.name} is")
             yield said[0]
             left = [it for it in left if it not in said[0].names]
+
+    def own_rows(self) -> List[Row]:
+        """What its comments say of parameters."""
+        return [it for it in self.call.rows() if not it.is_of_statuses()]
 
     # ---- Statuses and refusals
 
@@ -275,11 +296,17 @@ class Manual:
         """Where else to look."""
         beside = [it.name for it in self.header.calls if it.title == self.call.title]
         names = [it for it in beside if it != self.call.name]
-        listed = [".Xr bootkeep 3", *(f".Xr {it} 3" for it in sorted(names))]
+        listed = [f".Xr {self.overview_name()} 3", *(f".Xr {it} 3" for it in sorted(names))]
         return [
             ".Sh SEE ALSO",
             *(f"{it} ," for it in listed[:-1]),
             listed[-1],
+            *self.caveats(),
+        ]
+
+    def caveats(self) -> List[str]:
+        """For whom it holds."""
+        return [
             ".Sh CAVEATS",
             "What is said here holds for callers that keep to WHAT STAYS ON THE CALLER'S SIDE in",
             ".In bootkeep.h .",
@@ -318,21 +345,3 @@ def together(constants: List[Constant]) -> List[Tuple[str, List[str]]]:
         else:
             found.append((constant.says, [constant.name]))
     return found
-
-
-def main(words: List[str]) -> int:
-    """Writes the manuals into a folder. The answer is a status."""
-    if len(words) != 1 or words[0].startswith("-"):
-        print("call-manuals: takes the name of a folder", file=sys.stderr)
-        return 2
-    folder = Path(words[0])
-    try:
-        made = manuals()
-        folder.mkdir(parents=True, exist_ok=True)
-        for name, text in made.items():
-            (folder / name).write_bytes(text)
-    except (NoManual, OSError) as why:
-        print(f"call-manuals: {why}", file=sys.stderr)
-        return 1
-    print(f"{len(made)} manuals")
-    return 0

@@ -9,7 +9,7 @@ from dataclasses import dataclass
 from pathlib import Path
 from typing import Dict
 
-import call_manuals
+import call_manual_files
 import proof_note
 from file_tree import PROGRAM_MODE, FileTree
 from repository import ROOT
@@ -202,7 +202,7 @@ def development_files(made: Made, place: Place, examples: str) -> FileTree:
         files.put(f"include/{header}", made.built(header))
     for manual in ("bootkeep.3", "bootkeep-linux.3"):
         put_manual(files, place, manual)
-    for manual, text in call_manuals.manuals().items():
+    for manual, text in call_manual_files.manuals().items():
         place.put_text(files, f"share/man/man3/{manual}", text)
     put_examples(files, "c/examples", "*.[ch]", examples)
     for page in OF_CALLERS:

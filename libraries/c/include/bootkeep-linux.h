@@ -340,6 +340,8 @@ uint32_t bootkeep_machine_variables(struct bootkeep_machine *machine, const uint
 /*
  * The machine's variables as a set of their data, without attributes, as `bootvars read` makes it and as
  * bootkeep_vars_plan and the other calls of sets take it.
+ *
+ *     set, set_len   as of bootkeep_machine_variables
  */
 uint32_t bootkeep_machine_data(struct bootkeep_machine *machine, const uint8_t **set,
                                size_t *set_len) BOOTKEEP_LINUX_CHECKED BOOTKEEP_LINUX_NONNULL((1, 2, 3));
@@ -434,11 +436,11 @@ uint32_t bootkeep_machine_entries(struct bootkeep_machine *machine, const struct
  *     BOOTKEEP_BAD_SIZE            a `size` is below that of the struct of version 1
  *     BOOTKEEP_REFUSED             what is there, or was handed in, doesn't allow it: `refusal` of the fault says why
  *     BOOTKEEP_MACHINE_SYSTEM, BOOTKEEP_MACHINE_BUSY, BOOTKEEP_MACHINE_TAKEN_BACK, BOOTKEEP_MACHINE_UNSETTLED
- *
- * All take these flags:
- *
- *     BOOTKEEP_MACHINE_DRY_RUN     nothing is changed, no lock is taken and nothing is kept: what the change would lead
- *                                  to is told, once what an earlier change has left is done
+ */
+
+/*
+ * Of each change: nothing is changed, no lock is taken and nothing is kept. What the change would lead to is told, once
+ * what an earlier change has left is done.
  */
 #define BOOTKEEP_MACHINE_DRY_RUN 0x01
 /* Of bootkeep_machine_add and bootkeep_machine_add_loader: the entry is added even if one like it is there. */
@@ -531,7 +533,7 @@ struct bootkeep_machine_loader {
  *
  *     BOOTKEEP_DONE, BOOTKEEP_NO_MEMORY, BOOTKEEP_BAD_SIZE, BOOTKEEP_MACHINE_SYSTEM
  *     BOOTKEEP_REFUSED   BOOTKEEP_MACHINE_FAULT_NO_PARTITION, .._UNKNOWN_PARTITION or .._BAD_LOADER_NAME; or a number
- * of load options
+ *                        of load options
  */
 uint32_t bootkeep_machine_loader(struct bootkeep_machine *machine, const struct bootkeep_machine_loader *loader,
                                  const uint8_t **option, size_t *option_len) BOOTKEEP_LINUX_CHECKED
@@ -666,7 +668,7 @@ uint32_t bootkeep_machine_update(struct bootkeep_machine *machine, const uint8_t
  *     place   the place of the frame
  *     reply   where the answer goes, of which the caller has written `size`
  *     same    whether a repeat is of the frame that was applied under its number: one of BOOTKEEP_SAME_... of
- * bootkeep.h, BOOTKEEP_SAME_UNKNOWN if the reply is no repeat
+ *             bootkeep.h, BOOTKEEP_SAME_UNKNOWN if the reply is no repeat
  *
  *     BOOTKEEP_DONE
  *     BOOTKEEP_ABSENT     there is no such reply
