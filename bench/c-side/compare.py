@@ -1365,6 +1365,60 @@ class Cases:
         return f"{digits(normal)} {1 + NUMBERED.index(kind)} {fault} {option} {outcome} {entry} {next_number} {first} {count}"
 
 
+def made_by(cases: Cases, count: int) -> list[tuple[str, list[str]]]:
+    """So many cases of each kind."""
+    makers = [
+        cases.path_case,
+        cases.text_case,
+        cases.option_case,
+        cases.plan_case,
+        cases.risk_case,
+        cases.change_case,
+        cases.edit_case,
+        cases.moves_case,
+        cases.run_case,
+        cases.keeper_case,
+        cases.set_case,
+        cases.image_case,
+        cases.lists_case,
+        cases.changes_case,
+        cases.option_make_case,
+        cases.frame_make_case,
+        cases.frame_parts_case,
+        cases.names_case,
+        cases.word_case,
+        cases.named_case,
+        cases.description_case,
+        cases.parse_case,
+        cases.notes_case,
+        cases.noted_case,
+        cases.idle_case,
+        cases.record_case,
+        cases.undo_case,
+        cases.store_case,
+        cases.written_case,
+    ]
+    return [maker() for _ in range(count) for maker in makers]
+
+
+def compare(driver: list[str], made: list[tuple[str, list[str]]], seed: int) -> bool:
+    """Whether a driver says what is wanted of the cases, and prints what differs."""
+    asked = "".join(f"{line}\n" for line, _ in made)
+    done = subprocess.run(driver, input=asked, capture_output=True, text=True, check=False)
+    answers, wanted = done.stdout.splitlines(), [answer for _, lines in made for answer in lines]
+    differ = abs(len(answers) - len(wanted)) + (done.returncode != 0)
+    for number, (answer, want) in enumerate(zip(answers, wanted)):
+        if answer != want:
+            differ += 1
+            print(
+                f"answer {number} of seed {seed} is {answer[:200]}\nand the command's {want[:200]}"
+            )
+    if done.stderr:
+        print(done.stderr[:2000])
+    print(f"{len(wanted)} calls, {differ} differ")
+    return differ == 0
+
+
 def main() -> int:
     words = argparse.ArgumentParser()
     words.add_argument("root", type=Path)
@@ -1374,58 +1428,9 @@ def main() -> int:
     words.add_argument("--seed", type=int, default=1)
     given = words.parse_args()
     with tempfile.TemporaryDirectory() as work:
-        cases = Cases(
-            given.root, Side(given.root, given.command, Path(work)), random.Random(given.seed)
-        )
-        makers = [
-            cases.path_case,
-            cases.text_case,
-            cases.option_case,
-            cases.plan_case,
-            cases.risk_case,
-            cases.change_case,
-            cases.edit_case,
-            cases.moves_case,
-            cases.run_case,
-            cases.keeper_case,
-            cases.set_case,
-            cases.image_case,
-            cases.lists_case,
-            cases.changes_case,
-            cases.option_make_case,
-            cases.frame_make_case,
-            cases.frame_parts_case,
-            cases.names_case,
-            cases.word_case,
-            cases.named_case,
-            cases.description_case,
-            cases.parse_case,
-            cases.notes_case,
-            cases.noted_case,
-            cases.idle_case,
-            cases.record_case,
-            cases.undo_case,
-            cases.store_case,
-            cases.written_case,
-        ]
-        made = [maker() for _ in range(given.cases) for maker in makers]
-    asked = "".join(f"{line}\n" for line, _ in made)
-    done = subprocess.run(given.driver, input=asked, capture_output=True, text=True, check=False)
-    answers, wanted = done.stdout.splitlines(), [answer for _, lines in made for answer in lines]
-    differ = (
-        sum(a != b for a, b in zip(answers, wanted))
-        + abs(len(answers) - len(wanted))
-        + (done.returncode != 0)
-    )
-    for number, (answer, want) in enumerate(zip(answers, wanted)):
-        if answer != want:
-            print(
-                f"answer {number} of seed {given.seed} is {answer[:200]}\nand the command's {want[:200]}"
-            )
-    if done.stderr:
-        print(done.stderr[:2000])
-    print(f"{len(wanted)} calls, {differ} differ")
-    return differ > 0
+        side = Side(given.root, given.command, Path(work))
+        made = made_by(Cases(given.root, side, random.Random(given.seed)), given.cases)
+    return not compare(given.driver, made, given.seed)
 
 
 if __name__ == "__main__":

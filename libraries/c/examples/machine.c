@@ -1,4 +1,9 @@
-/* Adds an entry for a loader, first in BootOrder; or undoes the last change:  machine LOADER DESCRIPTION | machine undo
+/*
+ * Adds an entry for a loader, first in BootOrder, and shows its name; or takes the last change back. Of the machine
+ * that this runs on VARIABLES is /sys/firmware/efi/efivars, and STATE /var/lib/bootkeep.
+ *
+ *     machine VARIABLES STATE /boot/efi/EFI/rescue/grubx64.efi Rescue
+ *     machine VARIABLES STATE undo
  */
 #include <bootkeep-linux.h>
 #include <stdio.h>
@@ -19,20 +24,21 @@ static int tell(const struct bootkeep_machine *machine, uint32_t status)
 
 int main(int count, char **words)
 {
+    struct bootkeep_machine_options options = {.size = sizeof options};
     struct bootkeep_machine_change change = {.size = sizeof change};
     struct bootkeep_machine_loader loader = {.size = sizeof loader, .attributes = BOOTKEEP_ATTRIBUTE_ACTIVE};
     struct bootkeep_machine *machine;
-    uint32_t status;
-    int failed;
+    int is_undo = count == 4 && strcmp(words[3], "undo") == 0, failed;
 
-    if ((count != 3 && (count != 2 || strcmp(words[1], "undo") != 0)) ||
-        bootkeep_machine_open(NULL, &machine) != BOOTKEEP_DONE)
-        return fputs("machine: name a loader and a description, or `undo`\n", stderr), 2;
-    loader.file = words[1], loader.description = words[2];
-    status = count == 2 ? bootkeep_machine_undo(machine, 0, &change)
-                        : bootkeep_machine_add_loader(machine, &loader, BOOTKEEP_NO_ENTRY, BOOTKEEP_POSITION_FIRST, 0,
-                                                      &change);
-    failed = tell(machine, status);
+    if (count != 5 && !is_undo)
+        return fputs("machine: two folders, a loader and a description are wanted, or `undo`\n", stderr), 2;
+    options.variables = words[1], options.state = words[2];
+    if (bootkeep_machine_open(&options, &machine) != BOOTKEEP_DONE)
+        return fputs("machine: two folders are wanted\n", stderr), 2;
+    loader.file = words[3], loader.description = words[4];
+    failed = tell(machine, is_undo ? bootkeep_machine_undo(machine, 0, &change)
+                                   : bootkeep_machine_add_loader(machine, &loader, BOOTKEEP_NO_ENTRY,
+                                                                 BOOTKEEP_POSITION_FIRST, 0, &change));
     if (!failed && change.entry != BOOTKEEP_NO_ENTRY)
         printf("Boot%04X\n", (unsigned)change.entry);
     bootkeep_machine_close(machine);
