@@ -85,6 +85,9 @@ IDENTITY_LEN, KEPT_MAX, DIGEST_LEN = 16, 64, 8
 # How a change stands beside the variables of a machine, by number.
 UNCHANGED, NOT_MADE, CHANGED = range(3)
 
+# How many bytes the paths of a load option have at most.
+LIST_MAX = 0xFFFF
+
 # From how many bytes on a variable file of the cases is left out.
 LONG = 100_000
 
@@ -795,9 +798,10 @@ class Cases:
 
     def option_make_case(self) -> tuple[str, list[str]]:
         """An option of parts: the command reads what is expected of them."""
+        too_many = LIST_MAX // len(self.paths[0]) + 1
         *others, last = self.chance.choice(
             [[b""], *([path] for path in self.paths)] * 2
-            + [[self.paths[0], self.paths[-1]], [self.paths[0]] * 3000]
+            + [[self.paths[0], self.paths[-1]], [self.paths[0]] * too_many]
         )
         if last and self.chance.randrange(3) == 0:
             last = damage(self.chance, last)
@@ -820,7 +824,7 @@ class Cases:
         if fault:
             return line, [fault]
         zero = any(units[at : at + 2] == b"\0\0" for at in range(0, len(units), 2))
-        if zero or not paths or len(paths) > 65535:
+        if zero or not paths or len(paths) > LIST_MAX:
             kind = "ZERO_UNIT" if zero else "LIST_TOO_LONG" if paths else "EMPTY_LIST"
             return line, [self.refused(f"OPTION_{kind}")]
         option = attributes + len(paths).to_bytes(2, "little") + units + b"\0\0" + paths + optional
