@@ -284,11 +284,14 @@ class Places(unittest.TestCase):
             self.assertLessEqual({"c.md", "firmware.md", "linux.md"}, names)
             self.assertLessEqual({"examples/machine.c", "examples/tell.h"}, names)
 
-    def test_the_module_for_python_has_its_examples(self) -> None:
+    def test_the_module_for_python_has_its_pages_and_examples(self) -> None:
         files = package_files.python_files({"bootkeep/a.py": b"a"}, "M", "1").files
         self.assertEqual(files["lib/python3/dist-packages/bootkeep/a.py"].data, b"a")
         example = (ROOT / "libraries/python/examples/machine.py").read_bytes()
         self.assertEqual(files["share/doc/python3-bootkeep/examples/machine.py"].data, example)
+        self.assertLessEqual(
+            {f"share/doc/python3-bootkeep/{it}.md.gz" for it in ("c", "linux")}, set(files)
+        )
 
     def test_each_page_of_a_format_is_there(self) -> None:
         names = {f"formats/{it.name}" for it in (ROOT / "docs" / "formats").glob("*.md")}

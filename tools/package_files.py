@@ -36,6 +36,9 @@ OF_FLEET = "fleet.md"
 OF_CALLERS = ("c.md", "firmware.md", "linux.md")
 """The pages for those who write programs over the libraries for C."""
 
+OF_PYTHON = ("c.md", "linux.md")
+"""Those of them that have the module for Python too."""
+
 NOT_INSTALLED = frozenset("CONTRIBUTING.md SECURITY.md architecture.md library.md".split())
 """The pages for those who have the source."""
 
@@ -232,12 +235,15 @@ def pkg_config(made: Made, place: Place, name: str = "bootkeep.pc") -> bytes:
 
 
 def python_files(modules: Dict[str, bytes], metadata: str, version: str) -> FileTree:
-    """The module for Python, what Python knows of it as a package that is installed, and the examples, as Debian has them."""
+    """The module for Python, what Python knows of it as a package that is installed, its pages and the examples, as Debian
+    has them."""
     files, to = FileTree(), "lib/python3/dist-packages"
     for path, module in modules.items():
         files.put(f"{to}/{path}", module)
     files.put(f"{to}/bootkeep-{version}.dist-info/METADATA", metadata.encode())
     put_examples(files, "python/examples", "*.py", "share/doc/python3-bootkeep/examples")
+    for page in OF_PYTHON:
+        put_page(files, DEBIAN, "python3-bootkeep", page)
     return files
 
 
