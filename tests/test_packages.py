@@ -46,6 +46,12 @@ In the library:
 
 - A third.
 
+Renamed there, which is said in a paragraph of its own, that is too long for one line of a changelog.
+
+| Was | Is |
+|---|---|
+| `set_plan` | `vars_plan` |
+
 ## 0.1.0, 2023-01-02
 
 - The first.
@@ -59,6 +65,11 @@ DEBIAN_CHANGES = """bootkeep (0.2.0) UNRELEASED; urgency=medium
 
   [ In the library ]
   * A third.
+
+  Renamed there, which is said in a paragraph of its own, that is too long for
+  one line of a changelog.
+  * Was; Is
+  * `set_plan`; `vars_plan`
 
  -- Somebody <some@body>  Tue, 14 Nov 2023 22:13:20 +0000
 
@@ -76,6 +87,13 @@ class Changelog(unittest.TestCase):
         self.assertEqual([it.version for it in known], ["0.2.0", "0.1.0"])
         told = debian_package.debian_changelog(known, "Somebody <some@body>", MOMENT)
         self.assertEqual(told, DEBIAN_CHANGES)
+
+    def test_lines_are_no_longer_than_those_of_debian(self) -> None:
+        for release in debian_package.releases((ROOT / "CHANGELOG.md").read_text("utf-8")):
+            for line in debian_package.changed(release.changes).splitlines():
+                self.assertLessEqual(len(line), 80, line)
+        for line in (ROOT / "packaging/debian/control").read_text("utf-8").splitlines():
+            self.assertTrue(len(line) <= 80 or not line.startswith(" "), line)
 
     def test_without_a_version(self) -> None:
         with self.assertRaises(debian_package.NotPacked):

@@ -67,21 +67,33 @@ def debian_changelog(known: List[Release], maintainer: str, moment: int) -> str:
 
 
 def changed(changes: str) -> str:
-    """The changes of a version, an item each, and the paragraphs between them as headings."""
-    lines = []
+    """The changes of a version, an item each, and so each row of a table. What leads to some of them is a heading."""
+    lines: List[str] = []
     for block in re.split(r"\n(?=- )|\n\n", changes):
         text = " ".join(block.replace("**", "").split())
         if text.startswith("- "):
-            lines += textwrap.wrap(
-                text[2:],
-                78,
-                initial_indent="  * ",
-                subsequent_indent="    ",
-                break_on_hyphens=False,
-            )
-        elif text:
+            lines += wrapped(text[2:], "  * ")
+        elif text.startswith("|"):
+            lines += [line for row in rows(block) for line in wrapped(row, "  * ")]
+        elif text.endswith(":"):
             lines += ["", f"  [ {text.rstrip(':')} ]"]
+        elif text:
+            lines += ["", *wrapped(text, "  ")]
     return "".join(f"{line}\n" for line in ["", *lines])
+
+
+def wrapped(text: str, begins: str) -> List[str]:
+    """A text in lines that are no longer than those of Debian, of which the first begins so."""
+    inner = " " * len(begins)
+    return textwrap.wrap(
+        text, 78, initial_indent=begins, subsequent_indent=inner, break_on_hyphens=False
+    )
+
+
+def rows(table: str) -> List[str]:
+    """The rows of a table, the head first, as texts."""
+    found = [[it.strip() for it in line.strip("|").split("|")] for line in table.splitlines()]
+    return ["; ".join(row) for row in found if set("".join(row)) != {"-"}]
 
 
 def when(release: Release, moment: int) -> str:
