@@ -1,6 +1,8 @@
 """Compares the calls for C with the command: `compare.py [--cases N] [--seed N] ROOT COMMAND DRIVER..`.
 
 Values are taken from the examples and damaged at random: paths, texts, options, sets, streams, and runs of many events.
+What the command doesn't tell of is worked out here: of records, notes and journals (state_files.py) and of variable files
+(variable_files.py), which are made at random too.
 DRIVER makes the calls that its lines ask for (calls.c, calls.py or calls.rs), and COMMAND is `bootkeep`. The last line is `N calls, M differ`,
 and the status is 1 if some do.
 """
