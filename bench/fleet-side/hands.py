@@ -30,9 +30,10 @@ BY_HAND = (
 )
 """The path of an entry that is made by hand."""
 
-QUIET_WITHIN, HANDED_ON_WITHIN = 60, 0.4
+QUIET_WITHIN, HANDED_ON_WITHIN, GROWTH = 60, 0.4, 1.5
 """For how many seconds an update of a machine may be at work before its agent is held; and after how many it may wait for
-the agent, which is let go on then."""
+the agent, which is let go on then for a quarter of that. Each is so many times as long at the next try: where all is slow,
+both need more."""
 
 READ_TIMES = 20
 """How often a machine's variables are read again that are just being changed."""
@@ -137,15 +138,16 @@ class Hands:
 
     def _hold(self, key: str) -> None:
         """Stops an agent while nothing that it has started is at work: it may have to hand on what that waits for."""
-        until = time.monotonic() + QUIET_WITHIN
+        until, seconds = time.monotonic() + QUIET_WITHIN, HANDED_ON_WITHIN
         while True:
             self._signal(key, signal.SIGSTOP)
-            if self.processes.await_quiet(key, HANDED_ON_WITHIN):
+            if self.processes.await_quiet(key, seconds):
                 return
             if time.monotonic() > until:
                 raise RuntimeError(f"what {key} has started is still at work")
             self._signal(key, signal.SIGCONT)
-            time.sleep(HANDED_ON_WITHIN / 4)
+            time.sleep(seconds / 4)
+            seconds *= GROWTH
 
     def _signal(self, key: str, number: int) -> None:
         agent = self.processes.running.get(key)
