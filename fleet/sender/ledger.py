@@ -25,6 +25,12 @@ A goal, and in it the requests:
 What is done once, `next`, `send` and `try`, is remembered: which of its requests were done counts over attempts and
 eras, but those of a trial that failed until then, and so is over.
 
+An **older copy** of a ledger that comes back doesn't know what was done since. Machines tell it by their journals and their
+next numbers, but for one that wasn't heard of before, and that was set up anew since: its next number is 0 again. So
+the ledger is marked, by a file beside it, at the start of a sender, and when a machine is heard of for the first time. If
+it isn't the one that was marked last, each machine whose journal isn't known may have had one (`FORGOTTEN`), and what it
+has done of what is done once a person has to say.
+
 A goal that is open and has a note **waits** for what the note says, as for a start of the machine, which is looked at now
 and then.
 
@@ -46,7 +52,7 @@ import time
 from typing import Any, Dict, Iterable, List, NamedTuple, Optional
 
 from .goals import Goal
-from .requests import IS_OPEN, Machine, Requests
+from .requests import FORGOTTEN, IS_OPEN, Machine, Requests
 from .steps import Asked, Past
 from .waves import Waves, draw
 
@@ -153,6 +159,17 @@ class Ledger(Requests):
 
     # How machines are
 
+    def begin(self) -> bool:
+        """A sender starts. Machines that are left for a while may be taken up: what they said meanwhile nobody may have
+        heard. Whether another ledger was here before, as an older copy came back: then a machine whose journal this one
+        doesn't know may have had one."""
+        self.db.execute("UPDATE machine SET due = 0 WHERE due > 0")
+        is_other = self.is_other()
+        if is_other:
+            self.db.execute("UPDATE machine SET journal = ? WHERE journal IS NULL", (FORGOTTEN,))
+        self.mark()
+        return is_other
+
     def heard(self, name: str, now: float) -> None:
         """A machine was heard of, so it isn't silent."""
         self.db.execute("UPDATE machine SET seen = ?, due = 0 WHERE name = ?", (now, name))
@@ -210,10 +227,6 @@ class Ledger(Requests):
         self.db.execute(
             "UPDATE machine SET holder = NULL, until = 0, due = ? WHERE name = ?", (due, name)
         )
-
-    def end_pauses(self) -> None:
-        """Lets machines be taken up that are left for a while: what they said meanwhile nobody may have heard."""
-        self.db.execute("UPDATE machine SET due = 0 WHERE due > 0")
 
     def leave_all(self, holder: str) -> None:
         self.db.execute("UPDATE machine SET holder = NULL, until = 0 WHERE holder = ?", (holder,))

@@ -19,7 +19,7 @@ from .answers import MOST_WORDS, Answer, Reply, Unmet, plain
 from .goals import Goal, step
 from .ledger import Ledger, OpenGoal
 from .messages import Message, Stored, renumbered
-from .requests import MOST_FRAMES, Machine
+from .requests import FORGOTTEN, MOST_FRAMES, Machine
 from .steps import Ask, AskAll, Asked, Failed, Reached, Send, Wait, request_words
 
 MOST_NUMBERS = (1 << 32) - 1
@@ -47,6 +47,8 @@ class Taken(NamedTuple):
 def take(ledger: Ledger, name: str, answer: Answer, asked: Message) -> Taken:
     """Takes what a machine answers to a message, without a refusal."""
     machine = ledger.machine(name)
+    if machine.journal in (None, FORGOTTEN):
+        ledger.mark()  # Of this no earlier copy knows.
     try:
         taken = _next_message(ledger, machine, answer, asked)
     except Trouble as trouble:
@@ -69,6 +71,7 @@ def _next_message(
     unknown = _unknown(ledger, machine, answer)
     if unknown:
         return messages.question(answer, unknown)
+    _check_forgotten(ledger, machine, answer)
     machine = ledger.move_on(machine, answer.next)
     _compare_entries(machine, answer)
     ledger.looked_at(machine, answer.journal, len(answer.shown.entries))
@@ -76,10 +79,19 @@ def _next_message(
 
 
 def _compare_journal(machine: Machine, answer: Answer) -> None:
-    if machine.journal is not None and machine.journal != answer.journal:
+    if machine.journal not in (None, FORGOTTEN, answer.journal):
         raise Trouble(
             f"another journal: {answer.journal or 'none'}, next {answer.next},"
             f" and it was {machine.journal}, next {machine.next}"
+        )
+
+
+def _check_forgotten(ledger: Ledger, machine: Machine, answer: Answer) -> None:
+    """Raises Trouble for a machine that perhaps was set up anew, after it had done what is done once."""
+    if machine.journal == FORGOTTEN and ledger.doubts(machine.name):
+        raise Trouble(
+            f"its journal is {answer.journal or 'none'}, and it may have had another one:"
+            " an older copy of the ledger came back, or a new one was made"
         )
 
 

@@ -15,6 +15,10 @@ IS_OPEN = "state IN ('sent', 'late')"
 MOST_FRAMES = 64
 """How many requests a machine keeps the outcomes of, and so how many may be under way at once."""
 
+FORGOTTEN = "unknown"
+"""What stands for the journal of a machine that a ledger doesn't know, where another ledger was before: the machine may have
+had one, and have lost it."""
+
 
 class Machine(NamedTuple):
     """What the ledger has of a machine that matters for the next step."""

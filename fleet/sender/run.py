@@ -118,7 +118,9 @@ class Sender:
         """Sends until all is done, or for so many seconds, or until it is to stop. Whether all is done."""
         ends = None if limit is None else time.monotonic() + limit
         with self.ledger.transaction():
-            self.ledger.end_pauses()
+            is_other = self.ledger.begin()
+        if is_other:
+            self.teller.say("an older copy of the ledger came back, or a new one was made")
         report = Report(self.ledger, self.teller)
         try:
             while not is_stopped() and (ends is None or time.monotonic() < ends):

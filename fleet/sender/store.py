@@ -8,6 +8,7 @@ from __future__ import annotations
 import fcntl
 import glob
 import os
+import secrets
 import sqlite3
 import tempfile
 from contextlib import contextmanager
@@ -22,7 +23,7 @@ CREATE TABLE machine(
     name TEXT PRIMARY KEY,
     era INTEGER NOT NULL DEFAULT 0,
     next INTEGER NOT NULL DEFAULT 0,    -- the next number: what became of those below it is known
-    journal TEXT,                       -- the identity of its journal, once it told one
+    journal TEXT,                       -- the identity of its journal, once it told one; or that it may have had one
     entries INTEGER NOT NULL DEFAULT 0, -- how many entries it had when it was looked at last
     unmet INTEGER NOT NULL DEFAULT 0,   -- how often in a row it wasn't as a message expects, and had applied nothing
     seen REAL,                          -- when it was heard of last
@@ -82,6 +83,13 @@ UPDATE setting SET value = '3' WHERE name = 'version';
 """What makes a ledger of version 3 of one of version 2, in which there were no trials."""
 
 
+LATEST = "latest"
+"""The setting, and the end of the name of a file beside the ledger, by which the latest ledger is known."""
+
+COPIED = "copied"
+"""The setting by which a copy says that it is one."""
+
+
 class LedgerError(Exception):
     """Why nothing can be done with the ledger."""
 
@@ -102,7 +110,8 @@ class Store:
     def __init__(self, path: Path) -> None:
         if not path.is_file():
             raise LedgerError(f"{path}: there is no ledger; `bootfleet init` makes one")
-        self.path = path
+        self.path, self.path_beside = path, Path(f"{path.resolve()}.{LATEST}")
+        self.is_to_be_marked = False
         self.db = sqlite3.connect(str(path), isolation_level=None, timeout=60)
         try:
             self.db.execute("PRAGMA journal_mode=WAL")
@@ -149,8 +158,11 @@ class Store:
     def transaction(self) -> Iterator[None]:
         """What is done in it is done as a whole, and on the disk afterwards, or not at all."""
         self.db.execute("BEGIN IMMEDIATE")
+        self.is_to_be_marked = False
         try:
             yield
+            if self.is_to_be_marked:
+                self._mark()
         except BaseException:
             self.db.execute("ROLLBACK")
             raise
@@ -181,12 +193,43 @@ class Store:
         """Makes a setting of the ledger, or another one of it."""
         self.db.execute("INSERT OR REPLACE INTO setting VALUES(?, ?)", (name, value))
 
+    def remove_setting(self, name: str) -> None:
+        """Removes a setting of the ledger, if it is there."""
+        self.db.execute("DELETE FROM setting WHERE name = ?", (name,))
+
+    def is_other(self) -> bool:
+        """Whether this isn't the ledger that was marked last, but an older copy that took its place, or a new one."""
+        return self.setting(COPIED) is not None or self.setting(LATEST) != self._beside()
+
+    def mark(self) -> None:
+        """Has the ledger marked as the latest one, when the transaction ends."""
+        self.is_to_be_marked = True
+
+    def _mark(self) -> None:
+        with open(self.path_beside, "w", encoding="ascii") as out:
+            out.write(secrets.token_hex(16))
+            out.flush()
+            os.fsync(out.fileno())
+        self.set_setting(LATEST, self._beside() or "")
+        self.remove_setting(COPIED)
+
+    def _beside(self) -> Optional[str]:
+        """What was drawn when a ledger was marked, and the time of the file that has it: a file that is brought back has
+        another one."""
+        try:
+            with open(self.path_beside, encoding="ascii", errors="replace") as file:
+                return f"{file.read()} {os.fstat(file.fileno()).st_ctime_ns}"
+        except FileNotFoundError:
+            return None
+
     def back_up(self, path: Path) -> None:
-        """Copies the ledger as it is at one moment to a file of its own, which replaces what is there as a whole."""
+        """Copies the ledger as it is at one moment to a file of its own, which replaces what is there as a whole, and says
+        that it is a copy."""
         descriptor, made = tempfile.mkstemp(dir=path.parent, prefix=".bootfleet-")
         try:
-            copy = sqlite3.connect(made)
+            copy = sqlite3.connect(made, isolation_level=None)
             self.db.backup(copy)
+            copy.execute("INSERT OR REPLACE INTO setting VALUES(?, '1')", (COPIED,))
             # Of one file: the ledger's own has a second one beside it, with what was stored last.
             copy.execute("PRAGMA journal_mode=DELETE")
             copy.close()
