@@ -408,7 +408,8 @@ def do_adopt(options: argparse.Namespace) -> int:
         if told is None:
             raise Problem(f"{name}: it has told nothing of itself: mend it, and then `resend`")
         machine, unanswered = ledger.machine(name), ledger.count_unanswered(name)
-        print(f"{name}: {ledger.trouble(name)}")
+        trouble = ledger.trouble(name)
+        print(f"{name}: {trouble}")
         print(f" the ledger has:\n  journal {machine.journal or '-'}, next {machine.next}")
         print(f"  {unanswered} requests without an answer, which are not sent again")
         print(f" the machine says:\n{machines.describe(told)}")
@@ -418,6 +419,8 @@ def do_adopt(options: argparse.Namespace) -> int:
         done = [doubt.job for doubt in doubts if _is_done(doubt, options)]
         if options.yes or _agrees("Go on from what the machine says?"):
             with ledger.transaction():
+                if (ledger.trouble(name), ledger.told(name)) != (trouble, told):
+                    raise Problem(f"{name}: somebody else decided meanwhile: see how it stands now")
                 for job in done:
                     ledger.say_done(name, job)
                 ledger.adopt(name, told)

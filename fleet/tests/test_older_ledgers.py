@@ -27,6 +27,7 @@ from conftest import (
     update,
 )
 
+from sender import commands
 from sender.goals import Goal
 from sender.ledger import Ledger
 from sender.run import Sender
@@ -417,3 +418,49 @@ def test_a_message_that_takes_the_number_of_another_goal_is_asked_about(
     adopt(restored, "--done", 3)
     assert run(restored) and restored.ledger.all_reached()
     assert times(machine) == 1 and machine.order()[0] == 1
+
+
+# Who decides
+
+
+def test_what_two_people_decide_is_decided_once(
+    sender: Sender, machine: Folder, tmp_path: Path, monkeypatch: pytest.MonkeyPatch, capsys: Any
+) -> None:
+    """One of them is asked while the other one decides, and the sender goes on."""
+    add(sender.ledger, SEND)
+    by_backup(sender.ledger, tmp_path / "copy")
+    restored = put_back(sender, tmp_path / "copy")
+    assert MAY_HAVE_HAD in doubted(restored, 1)
+
+    def agree(_question: str) -> bool:
+        adopt(restored, "--again", 1)
+        assert run(restored) and restored.ledger.all_reached()
+        return True
+
+    monkeypatch.setattr(commands, "_agrees", agree)
+    words = ["--ledger", str(restored.ledger.path), "adopt", "m1", "--again", "1"]
+    assert commands.main(words) == commands.FAILED
+    assert "m1: somebody else decided meanwhile" in capsys.readouterr().err
+    assert restored.ledger.all_reached() and times(machine) == 1
+    assert "it is in no trouble" in adopt(restored, "--again", 1, status=3)
+
+
+def test_a_decision_that_is_cut_off_is_none(
+    sender: Sender, tmp_path: Path, monkeypatch: pytest.MonkeyPatch
+) -> None:
+    add(sender.ledger, SEND)
+    by_backup(sender.ledger, tmp_path / "copy")
+    restored = put_back(sender, tmp_path / "copy")
+    why = doubted(restored, 1)
+    words = ["--ledger", str(restored.ledger.path), "adopt", "m1", "--yes", "--done", "1"]
+
+    def cut_off(*_: object) -> None:
+        raise KeyboardInterrupt
+
+    with monkeypatch.context() as patched, pytest.raises(KeyboardInterrupt):
+        patched.setattr(Ledger, "adopt", cut_off)
+        commands.main(words)
+    assert restored.ledger.trouble("m1") == why
+    assert not restored.ledger.all_reached()
+    assert commands.main(words) == 0
+    assert run(restored) and restored.ledger.all_reached()
