@@ -14,11 +14,11 @@
  * DESCRIPTION
  *
  * libbootkeep computes and reads no machine. This library reads and changes one: the variables that Linux shows in
- * /sys/firmware/efi/efivars, Boot####, BootOrder, BootNext and Timeout (UEFI 2.10, 3.3). It makes the moves of
- * bootkeep_moves_next with the files, locks, names, rights and order of system calls of `bootvars`, so that either
- * finishes or takes back what the other has left after a loss of power, and either undoes what the other has changed.
- * docs/linux.md leads to a first program, docs/machines.md has what the files are for, and docs/formats/machine.md what
- * they hold.
+ * /sys/firmware/efi/efivars, or those of an emulator's variable file, as edk2's OVMF keeps it while the machine is off:
+ * Boot####, BootOrder, BootNext and Timeout (UEFI 2.10, 3.3). It makes the moves of bootkeep_moves_next with the files,
+ * locks, names, rights and order of system calls of `bootvars`, so that either finishes or takes back what the other
+ * has left after a loss of power, and either undoes what the other has changed. docs/linux.md leads to a first program,
+ * docs/machines.md has what the files are for, and docs/formats/machine.md what they hold.
  *
  * What libbootkeep does is proved. This library isn't: it is plain C, which the tests of libraries/c/tests and
  * bench/machine-c try against `bootvars`.
@@ -27,7 +27,7 @@
  *
  * Each change is one call, and takes these steps:
  *
- *     1. the state folder is made, if it isn't there, and locked; then the folder of the variables is locked
+ *     1. the state folder is made, if it isn't there, and locked; then the variables are locked, the folder or the file
  *     2. the variables and the journal are read
  *     3. what an earlier change has left is finished, or taken back
  *     4. what the change leads to is computed. If that is what is there, the call ends here
@@ -37,6 +37,11 @@
  * A cut at any moment up to the end of step 5 leaves all as it was. After that the next change, `bootvars update
  * --settle` or bootkeep_machine_settle finishes it. If the system refuses a step of 6, what was done before it is taken
  * back, and the call answers BOOTKEEP_MACHINE_TAKEN_BACK.
+ *
+ * In a variable file the changes of step 6 are one write of the whole file, which is replaced by a new one under its
+ * name. Those of bootkeep_machine_update go by the journal: the file is replaced before the journal says that nothing
+ * is left. All others need no journal, since a cut leaves the old file or the new one. They are made also if the system
+ * refuses the state folder or the record: then they can't be undone, which a remark tells.
  *
  * The locks are of flock(2), and aren't waited for: BOOTKEEP_MACHINE_BUSY says that another program has one. They are
  * held during the call and not in between.
@@ -93,7 +98,7 @@ uint32_t bootkeep_machine_version(void);
 
 /* The system refused to read or write something, for the reason in the fault's `system_error`. */
 #define BOOTKEEP_MACHINE_SYSTEM 0x0100
-/* Another program has the lock of the state folder, or of the folder of the variables. Try again later. */
+/* Another program has the lock of the state folder, or of the variables. Try again later. */
 #define BOOTKEEP_MACHINE_BUSY 0x0101
 /*
  * The system refused a step of the change, and what was made before it is taken back: it hasn't happened. So it is if
@@ -102,7 +107,9 @@ uint32_t bootkeep_machine_version(void);
 #define BOOTKEEP_MACHINE_TAKEN_BACK 0x0102
 /*
  * The system refused a step of the change, and then one that takes it back. The state folder has what is left to do,
- * and the next change begins with it. It may still happen: don't take it for one that failed.
+ * and the next change begins with it. It may still happen: don't take it for one that failed. Of a variable file it may
+ * also be that the file has the change, and that the system failed to bring its name to the disk:
+ * BOOTKEEP_MACHINE_LEFT_UNSURE.
  */
 #define BOOTKEEP_MACHINE_UNSETTLED 0x0103
 /* Of bootkeep_machine_update: something isn't as it was expected, and no frame was run. */
@@ -116,7 +123,7 @@ uint32_t bootkeep_machine_version(void);
 #define BOOTKEEP_MACHINE_AT_NONE 0
 /* To make, look at or lock the state folder. */
 #define BOOTKEEP_MACHINE_AT_STATE 1
-/* To lock or read the folder of the variables. */
+/* To lock or read the variables. */
 #define BOOTKEEP_MACHINE_AT_VARIABLES 2
 /* To find what the machine is called, or the identity of its start. */
 #define BOOTKEEP_MACHINE_AT_NAME 3
@@ -139,6 +146,8 @@ uint32_t bootkeep_machine_version(void);
 #define BOOTKEEP_MACHINE_LEFT_TAKEN_BACK 1
 /* The journal has what is left to do, and the next change begins with it. */
 #define BOOTKEEP_MACHINE_LEFT_OWED 2
+/* The variable file has the change, and a loss of power may bring back what it was before. */
+#define BOOTKEEP_MACHINE_LEFT_UNSURE 3
 
 /*
  * Why a call is refused that only this library makes: the fault's `refusal.kind`, if it is none of bootkeep.h. None has
@@ -149,9 +158,10 @@ uint32_t bootkeep_machine_version(void);
 #define BOOTKEEP_MACHINE_FAULT_SHARED_STATE 0x8001
 /* The state folder belongs neither to root nor to the user. */
 #define BOOTKEEP_MACHINE_FAULT_FOREIGN_STATE 0x8002
-/* No folder is where the state folder or the variables are to be. */
+/* No folder is where the state folder is to be. */
 #define BOOTKEEP_MACHINE_FAULT_NO_FOLDER 0x8003
-/* A link, a pipe, a device, a socket or a folder is where a file is to be. */
+/* A link, a pipe, a device, a socket or a folder is where a file is to be, or none of a folder and a file where the
+ * variables are to be. */
 #define BOOTKEEP_MACHINE_FAULT_IRREGULAR 0x8004
 /* A file has more bytes than are read of it. */
 #define BOOTKEEP_MACHINE_FAULT_TOO_MUCH 0x8005
@@ -183,10 +193,23 @@ uint32_t bootkeep_machine_version(void);
 #define BOOTKEEP_MACHINE_FAULT_BAD_LOADER_NAME 0x8014
 /* Firmware doesn't start the loader: `refusal.inner_kind` and `inner_place` are a fault of images. */
 #define BOOTKEEP_MACHINE_FAULT_NOT_STARTED 0x8015
-/* The variable isn't what was read of it any more: something else has changed it meanwhile. */
+/* The variable, or what is at the path of the variables, isn't what was read of it any more: something else has changed
+ * it meanwhile. */
 #define BOOTKEEP_MACHINE_FAULT_CHANGED_MEANWHILE 0x8016
 /* A flag isn't one of the call, or a number is none that it takes. */
 #define BOOTKEEP_MACHINE_FAULT_BAD_WORDS 0x8017
+/*
+ * At `refusal.place` of the variable file, after its last record, something isn't erased: there may have been more
+ * variables, and a change would be written over them. It is read all the same, and only `bootvars --force` changes it.
+ */
+#define BOOTKEEP_MACHINE_FAULT_DAMAGED 0x8018
+/* The identity of the start is needed, and the system doesn't tell that of a variable file's machine: give it at open.
+ */
+#define BOOTKEEP_MACHINE_FAULT_NO_START 0x8019
+/* At the path of a disk there is no block device that the system knows by this name. */
+#define BOOTKEEP_MACHINE_FAULT_NO_DEVICE 0x801a
+/* The disk hasn't got a partition of this number, or the partition that is named has another one. */
+#define BOOTKEEP_MACHINE_FAULT_OTHER_PARTITION 0x801b
 
 /* A handle of a machine. */
 struct bootkeep_machine;
@@ -269,17 +292,24 @@ uint32_t bootkeep_machine_remark(const struct bootkeep_machine *machine, size_t 
 struct bootkeep_machine_options {
     /* sizeof(struct bootkeep_machine_options) */
     size_t size;
-    /* The folder of the variables, or NULL for BOOTKEEP_MACHINE_VARIABLES. */
+    /*
+     * The folder of the variables, or NULL for BOOTKEEP_MACHINE_VARIABLES; or an emulator's variable file, whose
+     * machine has to be off. Of a link it is the file that it leads to.
+     */
     const char *variables;
     /* The state folder, or NULL for BOOTKEEP_MACHINE_STATE. Its own folder has to be there. */
     const char *state;
     /*
      * What the machine is called, in UTF-8, 1 to BOOTKEEP_MACHINE_MAX bytes, which no other machine is; or NULL for
      * what the system says. On an efivarfs that is the UUID of /sys/class/dmi/id/product_uuid, or without one
-     * `machine-id:` and what /etc/machine-id has; elsewhere it is the path of the folder of the variables.
+     * `machine-id:` and what /etc/machine-id has; elsewhere it is the path of the variables, from the root on.
      */
     const char *name;
-    /* The identity of the machine's start, or NULL for that of /proc/sys/kernel/random/boot_id. */
+    /*
+     * The identity of the machine's start, or NULL for that of /proc/sys/kernel/random/boot_id. Of a variable file it
+     * is a text that is another one after each start of its machine: BOOTKEEP_MACHINE_FAULT_NO_START says that it is
+     * needed, for bootkeep_machine_update and bootkeep_machine_settle, and if something is left to do.
+     */
     const char *start;
     /* BOOTKEEP_MACHINE_ADOPT and BOOTKEEP_MACHINE_NO_RECORD. */
     uint32_t flags;
@@ -318,10 +348,27 @@ uint32_t bootkeep_machine_words(struct bootkeep_machine *machine, const char *co
 
 /* ---- What is there ---------------------------------------------------------------------------------------------- */
 
+/* What a machine's variables are in: a folder as Linux shows them, or an emulator's variable file. */
+#define BOOTKEEP_MACHINE_PLACE_FOLDER 1
+#define BOOTKEEP_MACHINE_PLACE_FILE 2
+
+/*
+ * In `*place` what the variables are in, by what is at their path now: one of BOOTKEEP_MACHINE_PLACE_... Of a folder no
+ * more is looked at.
+ *
+ *     place   where the answer goes
+ *
+ *     BOOTKEEP_DONE, BOOTKEEP_NO_MEMORY
+ *     BOOTKEEP_REFUSED          something else is there, or a file that is no variable file: a number of variable files
+ *     BOOTKEEP_MACHINE_SYSTEM   nothing is there, or it can't be read
+ */
+uint32_t bootkeep_machine_place(struct bootkeep_machine *machine, uint32_t *place) BOOTKEEP_LINUX_CHECKED
+    BOOTKEEP_LINUX_NONNULL((1, 2));
+
 /*
  * bootkeep_machine_variables, bootkeep_machine_data, bootkeep_machine_plan and bootkeep_machine_entries read the
  * variables as they are now, also if an earlier change has left something to do. They take no lock, so a change that is
- * being made may be half seen.
+ * being made in a folder may be half seen. A remark tells of a variable file that is damaged.
  *
  *     BOOTKEEP_DONE, BOOTKEEP_NO_MEMORY, BOOTKEEP_REFUSED, BOOTKEEP_MACHINE_SYSTEM
  */
@@ -507,7 +554,10 @@ uint32_t bootkeep_machine_add(struct bootkeep_machine *machine, const uint8_t *o
 struct bootkeep_machine_loader {
     /* sizeof(struct bootkeep_machine_loader) */
     size_t size;
-    /* The path of its file, on the file system of a partition that is mounted, as /boot/efi/EFI/debian/shimx64.efi. */
+    /*
+     * The path of its file, on the file system of a partition that is mounted, as /boot/efi/EFI/debian/shimx64.efi; or
+     * with a disk its name there, with backslashes or slashes, as \EFI\debian\shimx64.efi.
+     */
     const char *file;
     /* The description of the entry, in UTF-8. */
     const char *description;
@@ -522,18 +572,27 @@ struct bootkeep_machine_loader {
      * of /proc, /sys and /dev, is below it.
      */
     const char *root;
+    /*
+     * The disk that the file is on, or a partition, as /dev/nvme0n1 or /dev/nvme0n1p1, which need not be mounted; or
+     * NULL for a file that is mounted.
+     */
+    const char *disk;
+    /* The number of the partition of the disk, or 0 for the first. It is 0 without a disk. */
+    uint32_t part;
+    uint32_t reserved_part;
 };
 
 /*
- * The bytes of the load option of a loader whose file is on a partition that is mounted: its path is the partition, as
- * the system tells it, and the name of the file there. Nothing is changed.
+ * The bytes of the load option of a loader whose file is on a partition that is mounted, or on a disk that is named:
+ * its path is the partition, as the system tells it, and the name of the file there. Nothing is changed. On a disk that
+ * is named the file isn't looked at, and need not be there.
  *
  *     loader               the loader
  *     option, option_len   where the answer goes: the bytes, and how many there are
  *
  *     BOOTKEEP_DONE, BOOTKEEP_NO_MEMORY, BOOTKEEP_BAD_SIZE, BOOTKEEP_MACHINE_SYSTEM
- *     BOOTKEEP_REFUSED   BOOTKEEP_MACHINE_FAULT_NO_PARTITION, .._UNKNOWN_PARTITION or .._BAD_LOADER_NAME; or a number
- *                        of load options
+ *     BOOTKEEP_REFUSED   BOOTKEEP_MACHINE_FAULT_NO_PARTITION, .._UNKNOWN_PARTITION, .._BAD_LOADER_NAME, .._NO_DEVICE or
+ *                        .._OTHER_PARTITION; or a number of load options
  */
 uint32_t bootkeep_machine_loader(struct bootkeep_machine *machine, const struct bootkeep_machine_loader *loader,
                                  const uint8_t **option, size_t *option_len) BOOTKEEP_LINUX_CHECKED
@@ -542,7 +601,8 @@ uint32_t bootkeep_machine_loader(struct bootkeep_machine *machine, const struct 
 /*
  * Adds an entry for a loader: `bootvars add --loader`. The file is looked at as bootkeep_image_check does, and what
  * firmware wouldn't start is refused, BOOTKEEP_MACHINE_FAULT_NOT_STARTED, unless BOOTKEEP_MACHINE_FORCE is given. What
- * couldn't be looked at is a remark. Secure Boot isn't asked.
+ * couldn't be looked at is a remark, and so is that a file on a disk that is named isn't looked at. Secure Boot isn't
+ * asked: `bootvars check` does that.
  *
  *     loader     the loader
  *     number, position
@@ -730,7 +790,9 @@ uint32_t bootkeep_machine_undo(struct bootkeep_machine *machine, uint32_t flags,
     BOOTKEEP_LINUX_NONNULL((1));
 
 /*
- * In `*owed` whether an earlier change has left something to do: not 0 if so. Nothing is changed, and no lock is taken.
+ * In `*owed` whether an earlier change has left something to do: not 0 if so. In a folder that is also one of
+ * Driver#### or SysPrep####, by `bootvars efibootmgr`, which bootkeep_machine_settle does, and no other call. Nothing
+ * is changed, and no lock is taken.
  *
  *     owed   where the answer goes
  *
@@ -740,11 +802,13 @@ uint32_t bootkeep_machine_owed(struct bootkeep_machine *machine, uint32_t *owed)
     BOOTKEEP_LINUX_NONNULL((1, 2));
 
 /*
- * Does what an earlier change has left to do, and no more: `bootvars update --settle`, of the boot manager's entries. A
- * state folder that isn't there isn't made: then nothing is left, and the answer is BOOTKEEP_DONE.
+ * Does what an earlier change has left to do, and no more: `bootvars update --settle`. In a folder that is also what
+ * one of Driver#### or of SysPrep#### has left, each by a journal of its own, also if another one is refused: the first
+ * refusal is that of the call, and others are remarks. A state folder that isn't there isn't made: then nothing is
+ * left, and the answer is BOOTKEEP_DONE.
  *
  *     flags    BOOTKEEP_MACHINE_DRY_RUN
- *     change   `settled` says whether there was something
+ *     change   `settled` says whether there was something, of whichever entries
  */
 uint32_t bootkeep_machine_settle(struct bootkeep_machine *machine, uint32_t flags,
                                  struct bootkeep_machine_change *change) BOOTKEEP_LINUX_CHECKED

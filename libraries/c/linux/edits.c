@@ -53,7 +53,7 @@ static uint32_t check(struct wanted *wanted, struct session *session)
     char path[PATH_MAX];
 
     for (size_t i = 0; i < names->count; i++)
-        if (touches(wanted, names->at[i]) && path_join(path, session->machine->folder, names->at[i]))
+        if (touches(wanted, names->at[i]) && path_join(path, session->machine->place, names->at[i]))
             return call_refused(session->machine, BOOTKEEP_MACHINE_AT_RUN, path, BOOTKEEP_MACHINE_FAULT_LEFT_OUT);
     return BOOTKEEP_DONE;
 }

@@ -11,7 +11,8 @@ static const char *const words_of_faults[] = {
     [BOOTKEEP_MACHINE_FAULT_SHARED_STATE - 0x8001] = "its group or others may write it",
     [BOOTKEEP_MACHINE_FAULT_FOREIGN_STATE - 0x8001] = "it belongs to another user than root and this one",
     [BOOTKEEP_MACHINE_FAULT_NO_FOLDER - 0x8001] = "it is no folder",
-    [BOOTKEEP_MACHINE_FAULT_IRREGULAR - 0x8001] = "it is a link, a pipe, a device, a socket or a folder",
+    [BOOTKEEP_MACHINE_FAULT_IRREGULAR - 0x8001] =
+        "it is a link, a pipe, a device or a socket, or a folder where a file is to be",
     [BOOTKEEP_MACHINE_FAULT_TOO_MUCH - 0x8001] = "it has more bytes than are read",
     [BOOTKEEP_MACHINE_FAULT_NO_VARIABLES - 0x8001] = "no boot variables are in it: is efivarfs mounted there?",
     [BOOTKEEP_MACHINE_FAULT_TWICE - 0x8001] = "another file shows the same variable",
@@ -29,6 +30,11 @@ static const char *const words_of_faults[] = {
     [BOOTKEEP_MACHINE_FAULT_BAD_LOADER_NAME - 0x8001] = "its name can't be one that firmware reads",
     [BOOTKEEP_MACHINE_FAULT_NOT_STARTED - 0x8001] = "firmware doesn't start the file",
     [BOOTKEEP_MACHINE_FAULT_CHANGED_MEANWHILE - 0x8001] = "something else has changed it since it was read",
+    [BOOTKEEP_MACHINE_FAULT_DAMAGED - 0x8001] =
+        "its store of variables is damaged, and there may have been more of them: `bootvars --force` writes over it",
+    [BOOTKEEP_MACHINE_FAULT_NO_START - 0x8001] = "the start of a variable file's machine has to be given",
+    [BOOTKEEP_MACHINE_FAULT_NO_DEVICE - 0x8001] = "it is no block device that the system knows by this name",
+    [BOOTKEEP_MACHINE_FAULT_OTHER_PARTITION - 0x8001] = "it hasn't got the partition of this number",
     [BOOTKEEP_MACHINE_FAULT_BAD_WORDS - 0x8001] = "a flag, a number, a name or a path isn't one that the call takes",
 };
 
@@ -40,20 +46,28 @@ static void append(char *text, size_t room, const char *more)
     snprintf(text + len, room - len, "%s", more);
 }
 
+/* Appends a place, if there is one. */
+static void append_place(char *text, size_t room, size_t place)
+{
+    char at[40];
+
+    if (place == BOOTKEEP_NO_PLACE)
+        return;
+    snprintf(at, sizeof at, " at %zu", place);
+    append(text, room, at);
+}
+
 /* Appends the word of a number of bootkeep.h, and its place. */
 static void append_number(char *text, size_t room, uint32_t kind, size_t place)
 {
-    char word[BOOTKEEP_WORD_MAX + 1] = "", at[40];
+    char word[BOOTKEEP_WORD_MAX + 1] = "";
     size_t len = 0;
 
     if (bootkeep_refusal_word(kind, (uint8_t *)word, BOOTKEEP_WORD_MAX, &len) != BOOTKEEP_DONE)
         len = (size_t)snprintf(word, sizeof word, "fault 0x%04x", (unsigned)kind);
     word[len] = '\0';
     append(text, room, word);
-    if (place != BOOTKEEP_NO_PLACE) {
-        snprintf(at, sizeof at, " at %zu", place);
-        append(text, room, at);
-    }
+    append_place(text, room, place);
 }
 
 /* Appends a reason. */
@@ -69,9 +83,10 @@ static void append_reason(char *text, size_t room, const struct reason *why)
     }
     if (why->system_error != 0)
         append(text, room, strerror_r(why->system_error, words, sizeof words));
-    else if (kind >= 0x8001 && kind - 0x8001 < known && words_of_faults[kind - 0x8001] != NULL)
+    else if (kind >= 0x8001 && kind - 0x8001 < known && words_of_faults[kind - 0x8001] != NULL) {
         append(text, room, words_of_faults[kind - 0x8001]);
-    else
+        append_place(text, room, why->refusal.place);
+    } else
         append_number(text, room, kind, why->refusal.place);
     if (why->system_error == 0 && why->refusal.inner_kind != BOOTKEEP_NO_KIND) {
         append(text, room, ": ");
@@ -152,6 +167,8 @@ uint32_t call_ended(struct bootkeep_machine *machine, uint32_t at, uint32_t stat
         append(machine->outcome.text, room,
                at == BOOTKEEP_MACHINE_AT_SETTLING ? "; so an earlier change is taken back, and nothing else is done"
                                                   : "; so the change is taken back, and the machine is as before it");
+    if (left == BOOTKEEP_MACHINE_LEFT_UNSURE)
+        append(machine->outcome.text, room, "; the file has the change, and a loss of power may take it back");
     if (left != BOOTKEEP_MACHINE_LEFT_OWED)
         return status;
     if (machine->outcome.second.path[0] != '\0') {

@@ -14,6 +14,9 @@
 #define NEW_FRONT ".bootkeep-"
 /* What a file keeps of the rights of the one that it replaces: nobody but its owner may write it. */
 enum { OWN_MODE = 0755, PRIVATE_MODE = 0600, FOLDER_MODE = 0700, PIECE = 65536 };
+/* How many links lead to a file at most, as Linux follows them, and how often a path is looked at that leads to another
+ * file once it is locked; and the answer for that. */
+enum { LINKS_MAX = 40, TURNS = 10000, ELSEWHERE = -3 };
 
 int open_again(const char *path, int how, mode_t mode)
 {
@@ -218,43 +221,54 @@ struct replacing {
     /* What is replaced, if something is. */
     bool is_old;
     struct stat old;
+    /* Whether it is one of the program's own, so that nobody but its owner may write it. */
+    bool is_own;
 };
 
-/* Where the new file is, beside the one at the path: 0, or a number of errno. */
+/* Where the new file is, beside the one at the path: 0, or a number of errno. Its name is cut where a file's has to
+ * end. */
 static int path_beside(const char *path, char beside[PATH_MAX])
 {
     const char *slash = strrchr(path, '/');
     const char *own = slash == NULL ? path : slash + 1;
-    char folder[PATH_MAX], name[NAME_MAX + 1];
+    char folder[PATH_MAX], name[sizeof NEW_FRONT + NAME_MAX];
     size_t len = strlen(path);
 
-    if (len >= sizeof folder || *own == '\0')
+    if (len >= sizeof folder || *own == '\0' || strlen(own) > NAME_MAX)
         return ENAMETOOLONG;
     folder_of(path, folder);
-    if (snprintf(name, sizeof name, "%s%s", NEW_FRONT, own) >= (int)sizeof name)
-        return ENAMETOOLONG;
+    len = (size_t)snprintf(name, sizeof name, "%s%s", NEW_FRONT, own);
+    if (len > NAME_MAX) {
+        len = NAME_MAX;
+        while (((uint8_t)name[len] & 0xc0) == 0x80)
+            len--;
+        name[len] = '\0';
+    }
+    if (strcmp(name, own) == 0)
+        return EINVAL;
     return path_join(beside, folder, name) ? 0 : ENAMETOOLONG;
 }
 
 /* What of the rights of an old file its successor has, which may have lost its owner or its group. */
 static mode_t kept_mode(mode_t mode, bool keeps_owner, bool keeps_group)
 {
-    mode &= OWN_MODE;
     if (keeps_owner)
         return keeps_group ? mode & 07777 : mode & 05707;
     return keeps_group ? mode & 03777 : mode & 01707;
 }
 
 /* Gives the new file the group, the owner and the rights of the old one, each if the user may. */
-static void keep_access(int file, const struct stat *old)
+static void keep_access(int file, const struct replacing *replacing)
 {
+    const struct stat *old = &replacing->old;
+    const mode_t mode = replacing->is_own ? old->st_mode & OWN_MODE : old->st_mode;
     struct stat made;
     const bool is_known = fstat(file, &made) == 0;
     const bool keeps_group = (is_known && made.st_gid == old->st_gid) || fchown(file, (uid_t)-1, old->st_gid) == 0;
     const bool keeps_owner = (is_known && made.st_uid == old->st_uid) || fchown(file, old->st_uid, (gid_t)-1) == 0;
 
     /* If that can't be, the file is for its owner alone. */
-    if (fchmod(file, kept_mode(old->st_mode, keeps_owner, keeps_group)) != 0)
+    if (fchmod(file, kept_mode(mode, keeps_owner, keeps_group)) != 0)
         return;
 }
 
@@ -267,7 +281,7 @@ static int create_beside(const struct replacing *replacing)
         return -1;
     file = open_again(replacing->new_path, O_WRONLY | O_CREAT | O_EXCL, PRIVATE_MODE);
     if (file >= 0 && replacing->is_old)
-        keep_access(file, &replacing->old);
+        keep_access(file, replacing);
     return file;
 }
 
@@ -291,6 +305,13 @@ static int leads_to_new(const struct replacing *replacing, int file)
     return fstat(file, &made) != 0 ? errno : leads_to(replacing->new_path, &made);
 }
 
+/* Removes the new file, if it still has its name. */
+static void discard(const struct replacing *replacing, int file)
+{
+    if (leads_to_new(replacing, file) == 0)
+        unlink(replacing->new_path);
+}
+
 /* Writes the new file, and gives it the name of the old one, if both still have theirs. */
 static int complete(const struct replacing *replacing, int file, const char *path, struct bytes bytes)
 {
@@ -302,14 +323,14 @@ static int complete(const struct replacing *replacing, int file, const char *pat
         error = leads_to(path, replacing->is_old ? &replacing->old : NULL);
     if (error == 0 && rename(replacing->new_path, path) != 0)
         error = errno;
-    if (error != 0 && leads_to_new(replacing, file) == 0)
-        unlink(replacing->new_path);
+    if (error != 0)
+        discard(replacing, file);
     return error;
 }
 
 int replace_file(const char *path, struct bytes bytes)
 {
-    struct replacing replacing = {.is_old = true};
+    struct replacing replacing = {.is_old = true, .is_own = true};
     char folder[PATH_MAX];
     int file, error;
 
@@ -331,5 +352,109 @@ int replace_file(const char *path, struct bytes bytes)
     if (error != 0)
         return error;
     folder_of(path, folder);
+    return sync_folder(folder);
+}
+
+/* ---- Files that are locked -----------------------------------------------------------------------------------------
+ */
+
+/* Where the links that begin with this path end: at the path itself, if it isn't a link. 0, or a number of errno. */
+static int end_of_links(const char *path, char end[PATH_MAX])
+{
+    char target[PATH_MAX], folder[PATH_MAX];
+
+    if (snprintf(end, PATH_MAX, "%s", path) >= PATH_MAX)
+        return ENAMETOOLONG;
+    for (int i = 0; i <= LINKS_MAX; i++) {
+        ssize_t len = readlink(end, target, sizeof target - 1);
+
+        if (len < 0)
+            return errno == EINVAL || errno == ENOENT ? 0 : errno;
+        target[len] = '\0';
+        folder_of(end, folder);
+        if (target[0] == '/' ? snprintf(end, PATH_MAX, "%s", target) >= PATH_MAX : !path_join(end, folder, target))
+            return ENAMETOOLONG;
+    }
+    return ELOOP;
+}
+
+/* Locks what a path leads to: EAGAIN if it leads to something else by now. */
+static int lock_once(const char *path, char end[PATH_MAX], int *lock)
+{
+    struct stat found, locked;
+    int error;
+
+    if (stat(path, &found) != 0)
+        return errno;
+    if (!S_ISREG(found.st_mode))
+        return READ_IRREGULAR;
+    *lock = open_again(path, O_WRONLY, 0);
+    if (*lock < 0)
+        return errno == ENOENT ? ELSEWHERE : errno;
+    error = try_lock(*lock);
+    if (error != 0)
+        return error;
+    if (fstat(*lock, &locked) != 0)
+        return errno;
+    error = end_of_links(path, end);
+    if (error == 0)
+        error = leads_to(end, &locked);
+    return error == EBUSY || (error == 0 && !S_ISREG(locked.st_mode)) ? ELSEWHERE : error;
+}
+
+int lock_regular(const char *path, char end[PATH_MAX], int *lock)
+{
+    for (int i = 0; i < TURNS; i++) {
+        int error = lock_once(path, end, lock);
+
+        if (error == 0)
+            return 0;
+        if (*lock >= 0)
+            close(*lock);
+        *lock = -1;
+        if (error != ELSEWHERE)
+            return error;
+    }
+    return EBUSY;
+}
+
+/* Locks the new file, which nobody else should have, writes it, and gives it the name of the old one. */
+static int complete_locked(const struct replacing *replacing, int file, bool keeps_lock, const char *end,
+                           struct bytes bytes)
+{
+    int error = keeps_lock ? try_lock(file) : 0;
+
+    if (error == 0)
+        return complete(replacing, file, end, bytes);
+    discard(replacing, file);
+    return error == EWOULDBLOCK ? EBUSY : error;
+}
+
+int replace_locked(const char *end, int *lock, bool keeps_lock, struct bytes bytes, bool *is_new)
+{
+    struct replacing replacing = {.is_old = true};
+    char folder[PATH_MAX];
+    int file, error;
+
+    *is_new = false;
+    if (fstat(*lock, &replacing.old) != 0)
+        return errno;
+    error = path_beside(end, replacing.new_path);
+    if (error != 0)
+        return error;
+    file = create_beside(&replacing);
+    if (file < 0)
+        return errno;
+    error = complete_locked(&replacing, file, keeps_lock, end, bytes);
+    *is_new = error == 0;
+    if (keeps_lock && error == 0) {
+        close(*lock);
+        *lock = file;
+    } else {
+        close(file);
+    }
+    if (error != 0)
+        return error;
+    folder_of(end, folder);
     return sync_folder(folder);
 }

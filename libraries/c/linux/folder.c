@@ -20,8 +20,6 @@
 
 enum { VENDOR_LEN = sizeof VENDOR - 1 };
 
-static const uint8_t stand_in[] = {7, 0, 0, 0, 0};
-
 /* How many bytes the name of the variable has that a file of this name shows, or -1 if it shows none. */
 static ssize_t variable_name_len(const char *file)
 {
@@ -49,14 +47,14 @@ static uint32_t read_names(struct bootkeep_machine *machine, DIR *folder, struct
         if (strcmp(name, ".") == 0 || strcmp(name, "..") == 0)
             continue;
         if (!is_utf8(name, strlen(name))) {
-            if (!remark(machine, machine->folder, "a file is ignored: its name isn't UTF-8"))
+            if (!remark(machine, machine->place, "a file is ignored: its name isn't UTF-8"))
                 return call_no_memory(machine);
         } else if (!texts_add(names, name, strlen(name))) {
             return call_no_memory(machine);
         }
     }
     if (errno != 0)
-        return call_system(machine, at, machine->folder, errno);
+        return call_system(machine, at, machine->place, errno);
     if (names->count > 1)
         qsort(names->at, names->count, sizeof *names->at, compare_texts);
     return BOOTKEEP_DONE;
@@ -65,12 +63,12 @@ static uint32_t read_names(struct bootkeep_machine *machine, DIR *folder, struct
 /* The names of the files in the folder, in the order of their bytes. */
 static uint32_t file_names(struct bootkeep_machine *machine, struct texts *names)
 {
-    DIR *folder = opendir(machine->folder);
+    DIR *folder = opendir(machine->place);
     uint32_t status;
 
     *names = (struct texts){NULL, 0};
     if (folder == NULL)
-        return call_system(machine, BOOTKEEP_MACHINE_AT_VARIABLES, machine->folder, errno);
+        return call_system(machine, BOOTKEEP_MACHINE_AT_VARIABLES, machine->place, errno);
     status = read_names(machine, folder, names);
     closedir(folder);
     return status;
@@ -98,21 +96,6 @@ static bool add_file(struct variables *variables, const char *name, const char *
     return grown[variables->files_len - 1].name != NULL && grown[variables->files_len - 1].file != NULL;
 }
 
-/* Leaves a variable out, and tells why. */
-static uint32_t leave_out(struct bootkeep_machine *machine, struct variables *variables, const char *name,
-                          const char *file, const char *why)
-{
-    char text[NAME_MAX + 128];
-
-    snprintf(text, sizeof text, "%s is ignored: %s", file, why);
-    if (!remark(machine, machine->folder, text))
-        return call_no_memory(machine);
-    if (is_boot_name(name, strlen(name)) &&
-        (!texts_add(&variables->left_out, name, strlen(name)) || !texts_add(&variables->unheld, name, strlen(name))))
-        return call_no_memory(machine);
-    return BOOTKEEP_DONE;
-}
-
 /* Why no set can hold a variable, by the refusal of putting it into one. */
 static const char *why_left_out(uint32_t kind)
 {
@@ -133,10 +116,11 @@ static uint32_t keep(struct bootkeep_machine *machine, struct variables *variabl
     uint32_t status;
 
     if (strcmp(name, "BootKeepState") == 0)
-        return leave_out(machine, variables, name, file, "it belongs into a set file, and firmware refuses it");
+        return variables_leave_out(machine, variables, name, file,
+                                   "it belongs into a set file, and firmware refuses it");
     status = set_put(&variables->data, name, bytes.at + skipped, bytes.len - skipped, &refusal);
     if (status == BOOTKEEP_REFUSED)
-        return leave_out(machine, variables, name, file, why_left_out(refusal.kind));
+        return variables_leave_out(machine, variables, name, file, why_left_out(refusal.kind));
     if (status == BOOTKEEP_DONE && is_boot && bytes.len > BOOTKEEP_DATA_MAX) {
         /* It has no room for its attributes beside its data. */
         return texts_add(&variables->left_out, name, strlen(name)) ? BOOTKEEP_DONE : call_no_memory(machine);
@@ -146,7 +130,7 @@ static uint32_t keep(struct bootkeep_machine *machine, struct variables *variabl
                          : set_put(&variables->kept, name, bytes.at + skipped, bytes.len - skipped, &refusal);
     if (status == BOOTKEEP_DONE)
         return status;
-    return call_answered(machine, BOOTKEEP_MACHINE_AT_VARIABLES, machine->folder, status, &refusal);
+    return call_answered(machine, BOOTKEEP_MACHINE_AT_VARIABLES, machine->place, status, &refusal);
 }
 
 /* Adds the variable of this name, which a file shows. One that goes away meanwhile isn't there. */
@@ -159,8 +143,8 @@ static uint32_t add_variable(struct bootkeep_machine *machine, struct variables 
     uint32_t status;
     int what;
 
-    if (!path_join(path, machine->folder, file))
-        return call_system(machine, at, machine->folder, ENAMETOOLONG);
+    if (!path_join(path, machine->place, file))
+        return call_system(machine, at, machine->place, ENAMETOOLONG);
     if (file_of(variables, name) != NULL)
         return call_refused(machine, at, path, BOOTKEEP_MACHINE_FAULT_TWICE);
     what = read_regular(path, VARIABLE_MAX, &bytes);
@@ -175,25 +159,10 @@ static uint32_t add_variable(struct bootkeep_machine *machine, struct variables 
         return call_no_memory(machine);
     }
     status = what == READ_TOO_MUCH
-                 ? leave_out(machine, variables, name, file, why_left_out(BOOTKEEP_FAULT_PUT_DATA_TOO_LONG))
+                 ? variables_leave_out(machine, variables, name, file, why_left_out(BOOTKEEP_FAULT_PUT_DATA_TOO_LONG))
                  : keep(machine, variables, name, file, bytes);
     bytes_free(&bytes);
     return status;
-}
-
-/* Puts a stand-in for each entry that is left out into the set of what is kept, so that its number is taken. */
-static uint32_t take_numbers(struct bootkeep_machine *machine, struct variables *variables)
-{
-    struct bootkeep_refusal refusal;
-
-    for (size_t i = 0; i < variables->left_out.count; i++) {
-        const char *name = variables->left_out.at[i];
-
-        if (is_entry_name(name, strlen(name), NULL) &&
-            set_put(&variables->kept, name, stand_in, sizeof stand_in, &refusal) != BOOTKEEP_DONE)
-            return call_no_memory(machine);
-    }
-    return BOOTKEEP_DONE;
 }
 
 /* Adds the variables that files of these names show. */
@@ -205,70 +174,34 @@ static uint32_t add_variables(struct bootkeep_machine *machine, const struct tex
     for (size_t i = 0; i < files->count; i++)
         is_any = is_any || variable_name_len(files->at[i]) >= 0;
     /* A machine may have no entry, and then none of these variables, until it gets one. */
-    if (!is_any && !is_on_efivarfs(machine->folder))
-        return call_refused(machine, BOOTKEEP_MACHINE_AT_VARIABLES, machine->folder,
+    if (!is_any && !is_on_efivarfs(machine->place))
+        return call_refused(machine, BOOTKEEP_MACHINE_AT_VARIABLES, machine->place,
                             BOOTKEEP_MACHINE_FAULT_NO_VARIABLES);
     if (!set_empty(&variables->kept) || !set_empty(&variables->data))
         return call_no_memory(machine);
     for (size_t i = 0; status == BOOTKEEP_DONE && i < files->count; i++) {
         ssize_t len = variable_name_len(files->at[i]);
-        char name[NAME_MAX + 1];
+        char name[NAME_MAX + 1], own[FAMILY_NAME_ROOM];
 
         if (len < 0)
             continue;
         snprintf(name, sizeof name, "%.*s", (int)len, files->at[i]);
-        status = add_variable(machine, variables, name, files->at[i]);
+        if (strcmp(machine->family, BOOT_FAMILY) == 0)
+            status = add_variable(machine, variables, name, files->at[i]);
+        else if (name_in_family(name, machine->family, BOOT_FAMILY, own))
+            status = add_variable(machine, variables, own, files->at[i]);
     }
-    return status == BOOTKEEP_DONE ? take_numbers(machine, variables) : status;
-}
-
-uint32_t variables_read(struct bootkeep_machine *machine, struct variables *variables)
-{
-    struct texts files;
-    uint32_t status;
-
-    *variables = (struct variables){0};
-    status = file_names(machine, &files);
-    if (status == BOOTKEEP_DONE)
-        status = add_variables(machine, &files, variables);
-    texts_free(&files);
     return status;
 }
 
-void variables_free(struct variables *variables)
+uint32_t folder_read(struct bootkeep_machine *machine, struct variables *variables)
 {
-    bytes_free(&variables->kept);
-    bytes_free(&variables->data);
-    texts_free(&variables->left_out);
-    texts_free(&variables->unheld);
-    for (size_t i = 0; i < variables->files_len; i++) {
-        free(variables->files[i].name);
-        free(variables->files[i].file);
-    }
-    free(variables->files);
-    *variables = (struct variables){0};
-}
+    struct texts files;
+    uint32_t status = file_names(machine, &files);
 
-uint32_t variables_let_go(struct variables *variables, struct bytes set)
-{
-    struct texts *names = &variables->left_out;
-    struct bootkeep_refusal refusal;
-    size_t stay = 0;
-    uint32_t status = BOOTKEEP_DONE;
-
-    for (size_t i = 0; i < names->count; i++) {
-        struct bytes value;
-        uint32_t found = set_get(set, names->at[i], &value);
-
-        bytes_free(&value);
-        if (found == BOOTKEEP_DONE && status == BOOTKEEP_DONE) {
-            status = set_put(&variables->kept, names->at[i], NULL, 0, &refusal);
-            free(names->at[i]);
-        } else {
-            names->at[stay++] = names->at[i];
-        }
-    }
-    names->count = stay;
+    if (status == BOOTKEEP_DONE)
+        status = add_variables(machine, &files, variables);
+    texts_free(&files);
     return status;
 }
 
@@ -277,10 +210,10 @@ static bool path_of(const struct bootkeep_machine *machine, const struct variabl
                     char path[PATH_MAX])
 {
     const char *file = file_of(variables, name);
-    char made[BOOT_NAME_ROOM + VENDOR_LEN];
+    char made[FAMILY_NAME_ROOM + VENDOR_LEN], shown[FAMILY_NAME_ROOM];
 
-    snprintf(made, sizeof made, "%s%s", name, VENDOR);
-    return path_join(path, machine->folder, file == NULL ? made : file);
+    snprintf(made, sizeof made, "%s%s", shown_name(machine, name, shown), VENDOR);
+    return path_join(path, machine->place, file == NULL ? made : file);
 }
 
 /* What is at the path of a variable's file. */
@@ -400,7 +333,7 @@ bool variable_change(const struct bootkeep_machine *machine, const struct variab
 
     *untouched = false;
     if (!path_of(machine, variables, wanted->name, path)) {
-        reason_set(why, machine->folder, ENAMETOOLONG, BOOTKEEP_NO_KIND);
+        reason_set(why, machine->place, ENAMETOOLONG, BOOTKEEP_NO_KIND);
         return false;
     }
     error = find(path, &found);
@@ -410,7 +343,7 @@ bool variable_change(const struct bootkeep_machine *machine, const struct variab
         return false;
     }
     if (error == 0)
-        error = change_found(machine->folder, path, wanted, &found, untouched);
+        error = change_found(machine->place, path, wanted, &found, untouched);
     bytes_free(&found.bytes);
     if (error == -1)
         reason_set(why, path, 0, BOOTKEEP_MACHINE_FAULT_CHANGED_MEANWHILE);

@@ -84,14 +84,14 @@ static bool is_machine_id(const char *text)
            strspn(text, "0") != MACHINE_ID_LEN;
 }
 
-/* Names the machine by the path of its folder, from the root on. */
+/* Names the machine by the path of its folder or its variable file, from the root on. */
 static uint32_t name_by_path(struct bootkeep_machine *machine, char **name)
 {
     const uint32_t at = BOOTKEEP_MACHINE_AT_NAME;
 
-    *name = realpath(machine->folder, NULL);
+    *name = realpath(machine->place, NULL);
     if (*name == NULL)
-        return call_system(machine, at, machine->folder, errno);
+        return call_system(machine, at, machine->place, errno);
     return BOOTKEEP_DONE;
 }
 
@@ -121,17 +121,17 @@ static uint32_t name_by_system(struct bootkeep_machine *machine, struct identity
     return BOOTKEEP_DONE;
 }
 
-uint32_t identity_read(struct bootkeep_machine *machine, struct identity *identity)
+/* What the machine is called, whatever family of entries is meant. */
+static uint32_t read_name(struct bootkeep_machine *machine, struct identity *identity)
 {
     char uuid[IDENTITY_MAX + 2];
     int error;
 
-    *identity = (struct identity){NULL, NULL, 0, ""};
     if (machine->given_name != NULL) {
         identity->name = strdup(machine->given_name);
         return identity->name == NULL ? call_no_memory(machine) : BOOTKEEP_DONE;
     }
-    if (!is_on_efivarfs(machine->folder))
+    if (!is_on_efivarfs(machine->place))
         return name_by_path(machine, &identity->name);
     error = read_text(PRODUCT_UUID, IDENTITY_MAX, uuid);
     if (error == ENOMEM)
@@ -141,6 +141,36 @@ uint32_t identity_read(struct bootkeep_machine *machine, struct identity *identi
         return name_by_path(machine, &identity->name);
     }
     return name_by_system(machine, identity, uuid);
+}
+
+/* Appends the family to the machine's name, so that no journal is taken for that of another family. None of them ever
+ * had another name. */
+static uint32_t add_family(struct bootkeep_machine *machine, struct identity *identity)
+{
+    const size_t room = strlen(identity->name) + strlen(machine->family) + 2;
+    char *made = malloc(room);
+
+    if (made == NULL)
+        return call_no_memory(machine);
+    snprintf(made, room, "%s %s", identity->name, machine->family);
+    free(identity->name);
+    free(identity->former);
+    identity->name = made;
+    identity->former = NULL;
+    if (strlen(made) <= BOOTKEEP_MACHINE_MAX)
+        return BOOTKEEP_DONE;
+    return call_refused(machine, BOOTKEEP_MACHINE_AT_NAME, machine->place, BOOTKEEP_FAULT_MACHINE_BAD_NAME);
+}
+
+uint32_t identity_read(struct bootkeep_machine *machine, struct identity *identity)
+{
+    uint32_t status;
+
+    *identity = (struct identity){NULL, NULL, 0, ""};
+    status = read_name(machine, identity);
+    if (status != BOOTKEEP_DONE || strcmp(machine->family, BOOT_FAMILY) == 0)
+        return status;
+    return add_family(machine, identity);
 }
 
 bool is_start(const char *text)

@@ -160,6 +160,12 @@ static uint32_t check_adoption(struct bootkeep_machine *machine, const struct id
     return call_refused(machine, at, path, BOOTKEEP_MACHINE_FAULT_OF_ANOTHER);
 }
 
+bool journal_is_of_another(const struct identity *identity, const struct journal *journal)
+{
+    return journal->file.len > 0 && is_named(journal->file) && !is_of(journal->file, identity->name) &&
+           !is_of(journal->file, identity->former);
+}
+
 uint32_t journal_own(struct bootkeep_machine *machine, const struct identity *identity, bool dry_run,
                      struct journal *journal)
 {

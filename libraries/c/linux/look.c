@@ -8,7 +8,7 @@
 static uint32_t read_set(struct bootkeep_machine *machine, bool is_data, const uint8_t **set, size_t *set_len)
 {
     struct variables variables;
-    uint32_t status = variables_read(machine, &variables);
+    uint32_t status = variables_read(machine, false, &variables);
 
     if (status == BOOTKEEP_DONE)
         bytes_take(&machine->answer, is_data ? &variables.data : &variables.kept);
@@ -33,7 +33,7 @@ uint32_t bootkeep_machine_data(struct bootkeep_machine *machine, const uint8_t *
 /* The fault of a call over a set of the machine's variables. */
 static uint32_t set_fault(struct bootkeep_machine *machine, uint32_t status, const struct bootkeep_refusal *refusal)
 {
-    return call_answered(machine, BOOTKEEP_MACHINE_AT_VARIABLES, machine->folder, status, refusal);
+    return call_answered(machine, BOOTKEEP_MACHINE_AT_VARIABLES, machine->place, status, refusal);
 }
 
 /* The number in the two bytes of a variable, or BOOTKEEP_NO_ENTRY if there is none. */
@@ -101,7 +101,7 @@ uint32_t bootkeep_machine_plan(struct bootkeep_machine *machine, struct bootkeep
     call_begin(machine);
     if (plan->size < sizeof *plan)
         return call_bad_size(machine);
-    status = variables_read(machine, &variables);
+    status = variables_read(machine, false, &variables);
     if (status == BOOTKEEP_DONE)
         status = read_plan(machine, variables.data, &made);
     if (status == BOOTKEEP_DONE)

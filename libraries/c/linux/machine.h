@@ -21,6 +21,10 @@
 #define VARIABLE_MAX (ATTRIBUTES_LEN + BOOTKEEP_DATA_MAX)
 /* Room for the longest name of a variable of the boot manager, `BootOrder`, and the zero after it. */
 #define BOOT_NAME_ROOM 10
+/* What the names of the boot manager's entries begin with, and of their order. */
+#define BOOT_FAMILY "Boot"
+/* Room for the longest name of an entry or an order of a family, `SysPrepOrder`, and the zero after it. */
+#define FAMILY_NAME_ROOM 13
 /* Room for the identity of a start, and the zero after it. */
 #define START_ROOM 65
 
@@ -75,8 +79,11 @@ struct variable_file {
     char *file;
 };
 
-/* What a folder shows of a machine's variables. */
+/* What a folder shows, or a variable file has, of a machine's variables. */
 struct variables {
+    /* Whether they are in a variable file, and then all of its bytes. */
+    bool is_file;
+    struct bytes file;
     /* A set of what the machine keeps: of the boot manager's variables their attributes too. */
     struct bytes kept;
     /* A set of the data of those that a set can hold. */
@@ -85,7 +92,7 @@ struct variables {
     struct texts left_out;
     /* The names of those that were read so: what was read of them says nothing of what they have. */
     struct texts unheld;
-    /* The file of each variable, also of those that are left out. */
+    /* In a folder the file of each variable, also of those that are left out. */
     struct variable_file *files;
     size_t files_len;
 };
@@ -115,9 +122,16 @@ struct outcome {
 
 /* A handle of a machine. */
 struct bootkeep_machine {
-    /* What was given at open. */
-    char *folder;
+    /* What was given at open: the folder of the variables or the variable file, and the state folder. */
+    char *place;
     char *state;
+    /* Whether the state folder was given. */
+    bool names_state;
+    /*
+     * What the names of its entries begin with in the folder: BOOT_FAMILY, but while what is owed of another family is
+     * settled. Their names are those of the boot manager's everywhere else.
+     */
+    const char *family;
     /* NULL for what the system says. */
     char *given_name;
     char *given_start;
@@ -178,6 +192,10 @@ bool is_entry_name(const char *name, size_t len, uint32_t *number);
 /* Whether this is the name of an entry, BootOrder, BootNext or Timeout. */
 bool is_boot_name(const char *name, size_t len);
 bool is_utf8(const char *text, size_t len);
+/* The name that an entry or the order of the one family has in the other: false if it is neither. */
+bool name_in_family(const char *name, const char *from, const char *to, char made[FAMILY_NAME_ROOM]);
+/* The name of the boot manager's as it is in the machine's family: in `made`, or as it is if it isn't one of them. */
+const char *shown_name(const struct bootkeep_machine *machine, const char *name, char made[FAMILY_NAME_ROOM]);
 /* The name of an entry, with a zero after it. */
 void entry_name(char name[BOOT_NAME_ROOM], uint32_t number);
 
@@ -219,6 +237,17 @@ int read_front(const char *path, size_t most, struct bytes *bytes);
 int read_any(const char *path, size_t limit, struct bytes *bytes);
 /* Replaces the file at the path as a whole, or makes it, for its owner alone: 0, or a number of errno. */
 int replace_file(const char *path, struct bytes bytes);
+/*
+ * Takes the lock of the regular file to which a path leads, of which `*lock` is the open file then, and `end` the path
+ * without a link at its end: 0, EWOULDBLOCK, READ_IRREGULAR or another number of errno. No lock is waited for.
+ */
+int lock_regular(const char *path, char end[PATH_MAX], int *lock);
+/*
+ * Replaces the file of such a lock as a whole; it has the rights of the old one. If the lock is kept, it is of the new
+ * file then, and otherwise of the old one. 0, or a number of errno: `*is_new` is whether the path leads to the new
+ * file, which fails to be brought to the disk.
+ */
+int replace_locked(const char *end, int *lock, bool keeps_lock, struct bytes bytes, bool *is_new);
 /* Brings what was written to a file, or the names in a folder, to the disk: 0, or a number of errno. */
 int sync_file(int file);
 int sync_folder(const char *path);
@@ -233,13 +262,24 @@ int open_again(const char *path, int how, mode_t mode);
 /* Takes the lock of an open folder without waiting: 0, EWOULDBLOCK, or another number of errno. */
 int try_lock(int folder);
 
-/* ---- folder.c: the folder of the variables --------------------------------------------------------------------- */
+/* ---- variables.c: what is there ---------------------------------------------------------------------------------- */
 
-/* Reads the folder of the variables. */
-uint32_t variables_read(struct bootkeep_machine *machine, struct variables *variables);
+/* Whether the variables are in a variable file, by what is at their path: something else than that and a folder is
+ * refused. */
+uint32_t place_look(struct bootkeep_machine *machine, bool *is_file);
+/* Reads the variables. A variable file that is damaged is refused if they are to be changed, and otherwise told. */
+uint32_t variables_read(struct bootkeep_machine *machine, bool is_change, struct variables *variables);
 void variables_free(struct variables *variables);
 /* Lets those of them go that no set can hold and that this set has: they are to be replaced. */
 uint32_t variables_let_go(struct variables *variables, struct bytes set);
+/* Leaves the variable of this name out, which is shown as the text, and tells why. */
+uint32_t variables_leave_out(struct bootkeep_machine *machine, struct variables *variables, const char *name,
+                             const char *shown, const char *why);
+
+/* ---- folder.c: the folder of the variables --------------------------------------------------------------------- */
+
+/* Reads the folder of the variables. */
+uint32_t folder_read(struct bootkeep_machine *machine, struct variables *variables);
 
 /* What a variable is to have, its attributes and its data, or NULL for nothing. */
 struct wanted_value {
@@ -258,6 +298,38 @@ bool variable_change(const struct bootkeep_machine *machine, const struct variab
 /* Whether the variable has what it is to have. What can't be read hasn't. */
 bool variable_has(const struct bootkeep_machine *machine, const struct variables *variables,
                   const struct wanted_value *wanted);
+
+/* ---- store.c: the variable file ---------------------------------------------------------------------------------- */
+
+/* Reads the variable file, as variables_read does. */
+uint32_t store_read(struct bootkeep_machine *machine, bool is_change, struct variables *variables);
+/* Refuses what is no variable file, or can't be read. */
+uint32_t store_check(struct bootkeep_machine *machine);
+/* The bytes of a variable file once it has what a machine keeps, but for the variables of these names, which stay. */
+uint32_t store_with(struct bytes file, struct bytes kept, const struct texts *left_out, struct bytes *made,
+                    struct bootkeep_refusal *refusal);
+
+/* ---- due.c: changes of a variable file by the journal ------------------------------------------------------------ */
+
+struct session;
+
+/* A change of a variable file that isn't written yet: they are written at once. No bytes stand for no variable. */
+struct due_change {
+    char name[BOOT_NAME_ROOM];
+    bool checks_before;
+    struct bytes before;
+    struct bytes after;
+};
+
+/* Keeps a change in mind: false if memory is refused. */
+bool due_add(struct session *session, const struct wanted_value *wanted);
+/* Writes them, and forgets them: false with `why` if that can't be, and the file is as it was, or has all of them. */
+bool due_write(struct session *session, struct reason *why);
+/* Forgets them, and that they were begun. */
+void due_forget(struct session *session);
+void due_free(struct session *session);
+/* Whether the file has the value. What can't be read hasn't. */
+bool due_is_made(const struct session *session, const struct wanted_value *wanted);
 
 /* ---- identity.c: what the machine is called --------------------------------------------------------------------- */
 
@@ -300,6 +372,45 @@ struct mount {
  */
 int leading_mount(const char *mounts, const char *path, struct mount *mount);
 
+/* ---- partition.c: partitions ------------------------------------------------------------------------------------- */
+
+enum { PARTITION_ID_LEN = 16 };
+
+/* What a call seeks: the file or the disk of this name, and the system below whose root it is. */
+struct seeker {
+    struct bootkeep_machine *machine;
+    const char *root;
+    const char *file;
+};
+
+/* A partition. */
+struct partition {
+    uint64_t number;
+    uint64_t start;
+    uint64_t size;
+    uint64_t block_size;
+    /* The 16 bytes that a node has, and 1 for a master boot record or 2 for a GUID partition table. */
+    uint8_t signature[PARTITION_ID_LEN];
+    uint8_t format;
+    uint32_t told_number;
+};
+
+/* The file or the disk is refused for this. */
+uint32_t seeker_refuse(const struct seeker *seeker, uint32_t kind);
+/* The system refused something of the file at the path. */
+uint32_t seeker_fail(const struct seeker *seeker, const char *path, int error);
+/* The path below the root, of one that begins there. */
+bool seeker_below(const struct seeker *seeker, const char *path, char whole[PATH_MAX]);
+/* The partition that a folder of /sys is of, without links; that of the device of these numbers; and the one at the
+ * path of a device, or that of this number of the disk that is there: 0 stands for the first. */
+uint32_t partition_of_folder(const struct seeker *seeker, const char *folder, struct partition *partition);
+uint32_t partition_of_device(const struct seeker *seeker, unsigned major, unsigned minor, struct partition *partition);
+uint32_t partition_of_named(const struct seeker *seeker, const char *device, uint32_t number,
+                            struct partition *partition);
+/* The path of a file of this name on a partition: false if memory is refused, and no bytes if the name can't be in one.
+ */
+bool partition_path(const struct partition *partition, const char *name, struct bytes *path);
+
 /* ---- journal.c: the journal -------------------------------------------------------------------------------------- */
 
 struct journal {
@@ -312,6 +423,8 @@ struct journal {
 
 /* Reads the journal of the state folder. A dry run goes on without one that may not be read. */
 uint32_t journal_read(struct bootkeep_machine *machine, bool dry_run, struct journal *journal);
+/* Whether it names another machine. */
+bool journal_is_of_another(const struct identity *identity, const struct journal *journal);
 /* Makes it this machine's own: unless it is a dry run, its file is replaced if it names another one. */
 uint32_t journal_own(struct bootkeep_machine *machine, const struct identity *identity, bool dry_run,
                      struct journal *journal);
@@ -345,8 +458,14 @@ enum ended { ENDED_NOT, ENDED_DONE, ENDED_TAKEN_BACK, ENDED_SETTLED };
 struct session {
     struct bootkeep_machine *machine;
     bool dry_run;
+    /* Whether a variable file is replaced as a whole, and not by the journal. */
+    bool is_whole;
+    /* Whether there is a state folder: without one only a variable file is changed, and nothing is kept. */
+    bool has_state;
     int state_lock;
     int place_lock;
+    /* The path of a variable file, without a link at its end. */
+    char file_path[PATH_MAX];
     struct identity identity;
     struct variables variables;
     /* What is there now: `store.journal` is the journal's file after its notes. */
@@ -358,6 +477,9 @@ struct session {
     enum ended ended;
     /* The variables that this call has begun to write, since its changes are made for the first time. */
     struct texts begun;
+    /* The changes of a variable file that aren't written yet. */
+    struct due_change *due;
+    size_t due_len;
     /* Why moves failed, the first one first. A move's reason is its place here and 1. */
     struct reason failed[FAILED_MAX];
     size_t failed_len;
@@ -398,7 +520,8 @@ typedef uint32_t record_visit(struct session *session, const struct kept_record 
 /* The answer of the last visit; BOOTKEEP_ABSENT if there are no more records. */
 uint32_t records_visit(struct session *session, record_visit *visit, void *with);
 
-/* ---- session.c: a call over a machine ---------------------------------------------------------------------------- */
+/* ---- locks.c, session.c: a call over a machine
+ * ---------------------------------------------------------------------------- */
 
 struct wanted;
 
@@ -449,6 +572,8 @@ uint32_t change_make(struct bootkeep_machine *machine, struct wanted *wanted, st
 /* Begins a session: locks, unless it is a dry run, and reads. */
 uint32_t session_open(struct session *session, struct bootkeep_machine *machine, struct wanted *wanted);
 void session_close(struct session *session);
+/* Locks the state folder and the variables, unless it is a dry run. */
+uint32_t session_lock(struct session *session, const struct wanted *wanted);
 /* Refuses flags that aren't among those. */
 uint32_t check_flags(struct bootkeep_machine *machine, uint32_t flags, uint32_t known);
 

@@ -1,6 +1,6 @@
 /*
- * The moves of a command: bootkeep_moves_next asks for them, and they are made in memory, or in the folder and the
- * journal. How a change of a variable is made is as crates/machine_changes has it.
+ * The moves of a command: bootkeep_moves_next asks for them, and they are made in memory, or in the place of the
+ * variables and the journal. How a change of a variable is made is as crates/machine_changes has it.
  */
 #include "machine.h"
 
@@ -95,9 +95,14 @@ static bool make_journal(struct session *session, const struct move *move, struc
         reason_set(why, session->machine->state, ENOMEM, BOOTKEEP_NO_KIND);
         return false;
     }
-    /* Also if that fails: it may be there nevertheless, and is taken back then. */
-    if (idle == 0)
+    /* What is changed of a variable file is there before the journal that says so, or isn't begun. */
+    if (idle != 0 && !due_write(session, why))
+        return false;
+    if (idle == 0) {
+        due_forget(session);
+        /* Also if that fails: it may be there nevertheless, and is taken back then. */
         session->doing = doing_after(session->doing, false);
+    }
     if (!journal_replace(session->machine, session->notes, move->bytes, why))
         return false;
     if (idle != 0) {
@@ -114,6 +119,18 @@ static void forget_begun(struct texts *begun)
     free(begun->at[--begun->count]);
 }
 
+/* Makes a change in the folder, or keeps one of a variable file in mind. */
+static bool change_one(struct session *session, const struct wanted_value *wanted, struct reason *why, bool *untouched)
+{
+    if (!session->variables.is_file)
+        return variable_change(session->machine, &session->variables, wanted, why, untouched);
+    *untouched = false;
+    if (due_add(session, wanted))
+        return true;
+    reason_set(why, session->machine->place, ENOMEM, BOOTKEEP_NO_KIND);
+    return false;
+}
+
 /* Makes a change for the first time, if the variable is what was read of it. */
 static bool make_first(struct session *session, struct wanted_value *wanted, struct reason *why)
 {
@@ -124,14 +141,14 @@ static bool make_first(struct session *session, struct wanted_value *wanted, str
     if ((status != BOOTKEEP_DONE && status != BOOTKEEP_ABSENT) ||
         !texts_add(&session->begun, wanted->name, strlen(wanted->name))) {
         bytes_free(&before);
-        reason_set(why, session->machine->folder, ENOMEM, BOOTKEEP_NO_KIND);
+        reason_set(why, session->machine->place, ENOMEM, BOOTKEEP_NO_KIND);
         return false;
     }
-    /* What no set can hold was read, but says nothing of what it has. */
-    wanted->checks_before = !texts_have(&session->variables.unheld, wanted->name);
+    /* What no set can hold was read, but says nothing of what it has. Of a variable file it counts as nothing. */
+    wanted->checks_before = session->variables.is_file || !texts_have(&session->variables.unheld, wanted->name);
     wanted->before = before.at;
     wanted->before_len = before.len;
-    made = variable_change(session->machine, &session->variables, wanted, why, &untouched);
+    made = change_one(session, wanted, why, &untouched);
     if (!made && untouched)
         forget_begun(&session->begun);
     bytes_free(&before);
@@ -158,7 +175,7 @@ static bool make_change(struct session *session, const struct move *move, struct
     /* This call hasn't begun to write the variable, so nothing of it is to be taken back. */
     if (session->doing == DOING_BACK && !texts_have(&session->begun, move->name))
         return true;
-    return variable_change(session->machine, &session->variables, &wanted, why, &untouched);
+    return change_one(session, &wanted, why, &untouched);
 }
 
 /* Whether a move that failed is made nevertheless, or that can't be told. */
@@ -168,6 +185,8 @@ static bool may_be_made(const struct session *session, const struct move *move)
 
     if (move->kind == BOOTKEEP_MOVE_JOURNAL)
         return journal_may_have(session->machine, session->notes, move->bytes);
+    if (session->variables.is_file)
+        return due_is_made(session, &wanted);
     return variable_has(session->machine, &session->variables, &wanted);
 }
 

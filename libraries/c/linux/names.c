@@ -42,6 +42,33 @@ bool is_boot_name(const char *name, size_t len)
            is_name(name, len, "Timeout");
 }
 
+/* What follows a family's front in the name of one of its entries or of its order, or NULL. */
+static const char *tail_of(const char *name, const char *family)
+{
+    const char *tail = name + strlen(family);
+
+    if (strncmp(name, family, strlen(family)) != 0)
+        return NULL;
+    if (strcmp(tail, "Order") == 0)
+        return tail;
+    for (size_t i = 0; i < 4; i++)
+        if (digit_of(tail[i]) < 0)
+            return NULL;
+    return tail[4] == '\0' ? tail : NULL;
+}
+
+bool name_in_family(const char *name, const char *from, const char *to, char made[FAMILY_NAME_ROOM])
+{
+    const char *tail = tail_of(name, from);
+
+    return tail != NULL && snprintf(made, FAMILY_NAME_ROOM, "%s%s", to, tail) < FAMILY_NAME_ROOM;
+}
+
+const char *shown_name(const struct bootkeep_machine *machine, const char *name, char made[FAMILY_NAME_ROOM])
+{
+    return name_in_family(name, BOOT_FAMILY, machine->family, made) ? made : name;
+}
+
 void entry_name(char name[BOOT_NAME_ROOM], uint32_t number)
 {
     snprintf(name, BOOT_NAME_ROOM, "Boot%04X", (unsigned)(number & 0xffff));

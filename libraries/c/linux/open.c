@@ -14,7 +14,7 @@ void bootkeep_machine_close(struct bootkeep_machine *machine)
     if (machine == NULL)
         return;
     call_begin(machine);
-    free(machine->folder);
+    free(machine->place);
     free(machine->state);
     free(machine->given_name);
     free(machine->given_start);
@@ -62,7 +62,9 @@ uint32_t bootkeep_machine_open(const struct bootkeep_machine_options *options, s
     if (made == NULL)
         return BOOTKEEP_NO_MEMORY;
     made->flags = given->flags;
-    if (!copy_text(&made->folder, given->variables, BOOTKEEP_MACHINE_VARIABLES) ||
+    made->family = BOOT_FAMILY;
+    made->names_state = given->state != NULL;
+    if (!copy_text(&made->place, given->variables, BOOTKEEP_MACHINE_VARIABLES) ||
         !copy_text(&made->state, given->state, BOOTKEEP_MACHINE_STATE) ||
         !copy_text(&made->given_name, given->name, NULL) || !copy_text(&made->given_start, given->start, NULL)) {
         bootkeep_machine_close(made);

@@ -87,17 +87,18 @@ static bool is_overwriting(const struct session *session, const struct left_chan
 /* Tells of one change. */
 static bool tell_change(const struct session *session, const struct left_change *change, bool is_same_start)
 {
-    char text[128];
+    char text[128], shown[FAMILY_NAME_ROOM];
 
     if (is_overwriting(session, change, is_same_start)) {
         snprintf(text, sizeof text,
-                 "%s was changed meanwhile, and is overwritten by what an earlier change has left to do", change->name);
-        if (!remark(session->machine, session->machine->folder, text))
+                 "%s was changed meanwhile, and is overwritten by what an earlier change has left to do",
+                 shown_name(session->machine, change->name, shown));
+        if (!remark(session->machine, session->machine->place, text))
             return false;
     }
     if (is_same_start || strcmp(change->name, "BootNext") != 0 || change->after.len == 0)
         return true;
-    return remark(session->machine, session->machine->folder,
+    return remark(session->machine, session->machine->place,
                   "BootNext not set again: the machine was started in between");
 }
 

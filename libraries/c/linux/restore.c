@@ -21,7 +21,7 @@ static uint32_t begin(const struct wanted *wanted, const struct session *session
 /* The fault of a call over a set of these, which isn't BOOTKEEP_DONE. */
 static uint32_t set_fault(struct session *session, uint32_t status, const struct bootkeep_refusal *refusal)
 {
-    return call_answered(session->machine, BOOTKEEP_MACHINE_AT_RUN, session->machine->folder, status, refusal);
+    return call_answered(session->machine, BOOTKEEP_MACHINE_AT_RUN, session->machine->place, status, refusal);
 }
 
 /* ---- What firmware takes of a set ------------------------------------------------------------------------------- */
@@ -158,7 +158,7 @@ static bool remark_refused(struct session *session, const struct refused *refuse
 
         entry_name(name, refused->numbers[i]);
         memcpy(text, name, BOOT_NAME_ROOM - 2);
-        if (!remark(session->machine, session->machine->folder, text))
+        if (!remark(session->machine, session->machine->place, text))
             return false;
     }
     return true;
@@ -188,11 +188,11 @@ static uint32_t check_numbers(struct session *session, struct bytes back)
     size_t len;
 
     if (is_new(session, back, "BootOrder", &len) && len % 2 != 0)
-        return call_refused(machine, at, machine->folder, BOOTKEEP_MACHINE_FAULT_ORDER_REFUSED);
+        return call_refused(machine, at, machine->place, BOOTKEEP_MACHINE_FAULT_ORDER_REFUSED);
     if (is_new(session, back, "BootNext", &len) && len != 2)
-        return call_refused(machine, at, machine->folder, BOOTKEEP_MACHINE_FAULT_NEXT_REFUSED);
+        return call_refused(machine, at, machine->place, BOOTKEEP_MACHINE_FAULT_NEXT_REFUSED);
     if (is_new(session, back, "Timeout", &len) && len != 2)
-        return call_refused(machine, at, machine->folder, BOOTKEEP_MACHINE_FAULT_TIMEOUT_REFUSED);
+        return call_refused(machine, at, machine->place, BOOTKEEP_MACHINE_FAULT_TIMEOUT_REFUSED);
     return BOOTKEEP_DONE;
 }
 

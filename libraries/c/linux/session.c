@@ -5,16 +5,10 @@
 #include "machine.h"
 
 #include <errno.h>
-#include <fcntl.h>
+#include <stdio.h>
 #include <stdlib.h>
 #include <string.h>
-#include <sys/stat.h>
 #include <unistd.h>
-
-/* What belongs, where Linux shows it, to the user as whom this program runs. */
-#define OWN_PROCESS "/proc/self"
-/* The rights of a folder's group and of others to write it. */
-enum { OTHERS_WRITE = 022 };
 
 uint32_t check_flags(struct bootkeep_machine *machine, uint32_t flags, uint32_t known)
 {
@@ -23,71 +17,22 @@ uint32_t check_flags(struct bootkeep_machine *machine, uint32_t flags, uint32_t 
     return call_refused(machine, BOOTKEEP_MACHINE_AT_NONE, NULL, BOOTKEEP_MACHINE_FAULT_BAD_WORDS);
 }
 
-/* Why an open folder isn't kept from others than this user and root, or BOOTKEEP_NO_KIND. */
-static uint32_t access_fault(const struct stat *folder)
-{
-    struct stat process;
-    const uid_t user = stat(OWN_PROCESS, &process) == 0 ? process.st_uid : 0;
-
-    if (folder->st_uid != 0 && folder->st_uid != user)
-        return BOOTKEEP_MACHINE_FAULT_FOREIGN_STATE;
-    return (folder->st_mode & OTHERS_WRITE) != 0 ? BOOTKEEP_MACHINE_FAULT_SHARED_STATE : BOOTKEEP_NO_KIND;
-}
-
-/* Opens and locks a folder, of which `*lock` is the open file. */
-static uint32_t lock_folder(struct bootkeep_machine *machine, uint32_t at, const char *path, bool is_guarded, int *lock)
-{
-    struct stat found;
-    uint32_t fault;
-    int error;
-
-    /* Something else than a folder isn't opened: a pipe would be waited for. */
-    *lock = open_again(path, O_RDONLY | O_DIRECTORY, 0);
-    if (*lock < 0 && errno == ENOTDIR)
-        return call_refused(machine, at, path, BOOTKEEP_MACHINE_FAULT_NO_FOLDER);
-    if (*lock < 0 || fstat(*lock, &found) != 0)
-        return call_system(machine, at, path, errno);
-    fault = is_guarded ? access_fault(&found) : BOOTKEEP_NO_KIND;
-    if (fault != BOOTKEEP_NO_KIND)
-        return call_refused(machine, at, path, fault);
-    error = try_lock(*lock);
-    if (error == EWOULDBLOCK)
-        return call_busy(machine, at, path);
-    return error == 0 ? BOOTKEEP_DONE : call_system(machine, at, path, error);
-}
-
-/* Makes the state folder, if that is wanted and nothing is there, and locks it. */
-static uint32_t lock_state(struct session *session, const struct wanted *wanted)
+/* The identity of the machine's start, which of a variable file's machine nothing but the caller tells. */
+static uint32_t read_start(struct session *session)
 {
     struct bootkeep_machine *machine = session->machine;
-    char parent[PATH_MAX];
-    int error = 0;
 
-    if (strlen(machine->state) >= sizeof parent)
-        error = ENAMETOOLONG;
-    if (error == 0 && wanted->makes_state) {
-        folder_of(machine->state, parent);
-        error = make_folder(machine->state, parent);
-    }
-    if (error != 0)
-        return call_system(machine, BOOTKEEP_MACHINE_AT_STATE, machine->state, error);
-    return lock_folder(machine, BOOTKEEP_MACHINE_AT_STATE, machine->state, true, &session->state_lock);
+    if (session->variables.is_file && machine->given_start == NULL)
+        return call_refused(machine, BOOTKEEP_MACHINE_AT_NAME, machine->place, BOOTKEEP_MACHINE_FAULT_NO_START);
+    return identity_start(machine, &session->identity);
 }
 
-/* Looks whether the variables are in a folder, and locks that. */
-static uint32_t lock_place(struct session *session)
+/* Takes over a journal, and what is left to do in it. */
+static void take_journal(struct session *session, struct journal *journal)
 {
-    const uint32_t at = BOOTKEEP_MACHINE_AT_VARIABLES;
-    struct bootkeep_machine *machine = session->machine;
-    struct stat found;
-
-    if (stat(machine->folder, &found) != 0)
-        return call_system(machine, at, machine->folder, errno);
-    if (!S_ISDIR(found.st_mode))
-        return call_refused(machine, at, machine->folder, BOOTKEEP_MACHINE_FAULT_NO_FOLDER);
-    if (session->dry_run)
-        return BOOTKEEP_DONE;
-    return lock_folder(machine, at, machine->folder, false, &session->place_lock);
+    session->doing = journal->is_idle ? DOING_NOTHING : DOING_SETTLING;
+    bytes_take(&session->store.journal, &journal->file);
+    bytes_take(&session->notes, &journal->notes);
 }
 
 /* Reads the journal, which is this machine's own then. */
@@ -95,48 +40,88 @@ static uint32_t open_journal(struct session *session, const struct wanted *wante
 {
     struct bootkeep_machine *machine = session->machine;
     struct journal journal;
-    uint32_t status = journal_read(machine, session->dry_run, &journal);
+    uint32_t status = read_start(session);
 
+    if (status != BOOTKEEP_DONE)
+        return status;
+    status = journal_read(machine, session->dry_run, &journal);
     if (status == BOOTKEEP_DONE)
         status = journal_own(machine, &session->identity, session->dry_run, &journal);
     session->had_notes = journal.notes.len > 0;
     if (status == BOOTKEEP_DONE && wanted->has_requests && !session->dry_run)
         status = journal_begin_notes(machine, &session->identity, &journal);
-    session->doing = journal.is_idle ? DOING_NOTHING : DOING_SETTLING;
-    bytes_take(&session->store.journal, &journal.file);
-    bytes_take(&session->notes, &journal.notes);
+    take_journal(session, &journal);
+    return status;
+}
+
+/*
+ * The same of a variable file that is replaced as a whole. All that counts of the journal is what it has left to do
+ * there: another machine's, or one that is idle, stays as it is, and the start is of no account then.
+ */
+static uint32_t open_journal_of_whole(struct session *session)
+{
+    struct bootkeep_machine *machine = session->machine;
+    struct journal journal = {{NULL, 0}, {NULL, 0}, true};
+    uint32_t status = BOOTKEEP_DONE;
+
+    if (session->has_state || session->dry_run)
+        status = journal_read(machine, session->dry_run, &journal);
+    if (status == BOOTKEEP_DONE && !journal.is_idle && !journal_is_of_another(&session->identity, &journal)) {
+        status = read_start(session);
+        if (status == BOOTKEEP_DONE)
+            status = journal_own(machine, &session->identity, session->dry_run, &journal);
+        take_journal(session, &journal);
+    } else if (status == BOOTKEEP_DONE) {
+        memcpy(session->identity.start, "-", sizeof "-");
+    }
+    journal_free(&journal);
+    return status;
+}
+
+/* Reads the variables, and looks whether those that no set can hold allow the change. */
+static uint32_t read_variables(struct session *session, struct wanted *wanted)
+{
+    struct bootkeep_machine *machine = session->machine;
+    const bool is_file = session->variables.is_file;
+    uint32_t status;
+
+    variables_free(&session->variables);
+    status = variables_read(machine, true, &session->variables);
+    /* Something else is there than what was locked. */
+    if (status == BOOTKEEP_DONE && session->variables.is_file != is_file)
+        status = call_refused(machine, BOOTKEEP_MACHINE_AT_VARIABLES, machine->place,
+                              BOOTKEEP_MACHINE_FAULT_CHANGED_MEANWHILE);
+    if (status == BOOTKEEP_DONE && wanted->given.at != NULL &&
+        variables_let_go(&session->variables, wanted->given) != BOOTKEEP_DONE)
+        status = call_no_memory(machine);
+    if (status == BOOTKEEP_DONE && wanted->check != NULL)
+        status = wanted->check(wanted, session);
+    bytes_free(&session->store.kept);
+    if (status == BOOTKEEP_DONE &&
+        !bytes_copy(&session->store.kept, session->variables.kept.at, session->variables.kept.len))
+        status = call_no_memory(machine);
     return status;
 }
 
 uint32_t session_open(struct session *session, struct bootkeep_machine *machine, struct wanted *wanted)
 {
-    uint32_t status = BOOTKEEP_DONE;
+    uint32_t status;
 
     memset(session, 0, sizeof *session);
     session->machine = machine;
     session->dry_run = (wanted->flags & BOOTKEEP_MACHINE_DRY_RUN) != 0;
     session->state_lock = -1;
     session->place_lock = -1;
-    if (!session->dry_run)
-        status = lock_state(session, wanted);
+    status = place_look(machine, &session->variables.is_file);
+    session->is_whole = session->variables.is_file && !wanted->has_requests && wanted->begin != NULL;
     if (status == BOOTKEEP_DONE)
-        status = lock_place(session);
+        status = session_lock(session, wanted);
     if (status == BOOTKEEP_DONE)
-        status = variables_read(machine, &session->variables);
-    if (status == BOOTKEEP_DONE && wanted->given.at != NULL &&
-        variables_let_go(&session->variables, wanted->given) != BOOTKEEP_DONE)
-        status = call_no_memory(machine);
-    if (status == BOOTKEEP_DONE && wanted->check != NULL)
-        status = wanted->check(wanted, session);
+        status = read_variables(session, wanted);
     if (status == BOOTKEEP_DONE)
         status = identity_read(machine, &session->identity);
     if (status == BOOTKEEP_DONE)
-        status = identity_start(machine, &session->identity);
-    if (status == BOOTKEEP_DONE)
-        status = open_journal(session, wanted);
-    if (status == BOOTKEEP_DONE &&
-        !bytes_copy(&session->store.kept, session->variables.kept.at, session->variables.kept.len))
-        status = call_no_memory(machine);
+        status = session->is_whole ? open_journal_of_whole(session) : open_journal(session, wanted);
     return status;
 }
 
@@ -147,6 +132,7 @@ void session_close(struct session *session)
     bytes_free(&session->notes);
     identity_free(&session->identity);
     texts_free(&session->begun);
+    due_free(session);
     if (session->place_lock >= 0)
         close(session->place_lock);
     if (session->state_lock >= 0)
@@ -178,7 +164,7 @@ static uint32_t tell_end(struct session *session, const struct bootkeep_moves_en
     case BOOTKEEP_END_NOT_SETTLED:
         return call_ended(machine, BOOTKEEP_MACHINE_AT_SETTLING, BOOTKEEP_MACHINE_UNSETTLED,
                           BOOTKEEP_MACHINE_LEFT_OWED);
-    case BOOTKEEP_END_RUN_REFUSED: return call_refused(machine, BOOTKEEP_MACHINE_AT_RUN, machine->folder, end->fault);
+    case BOOTKEEP_END_RUN_REFUSED: return call_refused(machine, BOOTKEEP_MACHINE_AT_RUN, machine->place, end->fault);
     case BOOTKEEP_END_TAKEN_BACK:
         return call_ended(machine, BOOTKEEP_MACHINE_AT_CHANGE, BOOTKEEP_MACHINE_TAKEN_BACK,
                           BOOTKEEP_MACHINE_LEFT_TAKEN_BACK);
@@ -224,7 +210,7 @@ static uint32_t make_moves(struct session *session, struct bootkeep_moves *moves
 /* The fault of a command that can't be begun. */
 static uint32_t not_begun(struct session *session, uint32_t status, const struct bootkeep_refusal *refusal)
 {
-    return call_answered(session->machine, BOOTKEEP_MACHINE_AT_RUN, session->machine->folder, status, refusal);
+    return call_answered(session->machine, BOOTKEEP_MACHINE_AT_RUN, session->machine->place, status, refusal);
 }
 
 /* Does what an earlier change has left to do, or in a dry run looks what is there then. */
@@ -306,6 +292,64 @@ static uint32_t run_really(struct session *session, struct wanted *wanted)
     return status;
 }
 
+/* Keeps what was before and after a change of a variable file. If that can't be, it is told, and the change is made. */
+static uint32_t keep_or_tell(struct session *session, struct wanted *wanted, const struct store *after,
+                             uint64_t *number)
+{
+    struct bootkeep_machine *machine = session->machine;
+    char text[PATH_MAX + 256];
+    uint32_t status = BOOTKEEP_DONE;
+
+    if (wanted->keeps_record && session->has_state)
+        status = record_keep(session, session->store.kept, after->kept, wanted->call, number);
+    if (status == BOOTKEEP_DONE || status == BOOTKEEP_NO_MEMORY)
+        return status;
+    *number = 0;
+    snprintf(text, sizeof text, "there is no undo of this change: %.*s", PATH_MAX, machine->outcome.text);
+    (void)call_done(machine);
+    return remark(machine, machine->place, text) ? BOOTKEEP_DONE : call_no_memory(machine);
+}
+
+/* Replaces the variable file. */
+static uint32_t replace_whole(struct session *session, struct bytes made)
+{
+    struct bootkeep_machine *machine = session->machine;
+    bool is_new;
+    int error = replace_locked(session->file_path, &session->place_lock, false, made, &is_new);
+
+    if (error == 0)
+        return BOOTKEEP_DONE;
+    if (error == ENOMEM)
+        return call_no_memory(machine);
+    if (!is_new)
+        return call_system(machine, BOOTKEEP_MACHINE_AT_CHANGE, machine->place, error);
+    reason_set(&machine->outcome.why, machine->place, error, BOOTKEEP_NO_KIND);
+    return call_ended(machine, BOOTKEEP_MACHINE_AT_CHANGE, BOOTKEEP_MACHINE_UNSETTLED, BOOTKEEP_MACHINE_LEFT_UNSURE);
+}
+
+/* Makes the change in a variable file, which is replaced as a whole. */
+static uint32_t make_whole(struct session *session, struct wanted *wanted, const struct store *after,
+                           struct bootkeep_machine_change *change)
+{
+    struct bootkeep_machine *machine = session->machine;
+    struct bootkeep_refusal refusal;
+    struct bytes made = {NULL, 0};
+    uint32_t status = BOOTKEEP_DONE;
+
+    if (change->changed != 0) {
+        status = store_with(session->variables.file, after->kept, &session->variables.left_out, &made, &refusal);
+        if (status != BOOTKEEP_DONE)
+            return call_answered(machine, BOOTKEEP_MACHINE_AT_CHANGE, machine->place, status, &refusal);
+        status = keep_or_tell(session, wanted, after, &change->record);
+        if (status == BOOTKEEP_DONE)
+            status = replace_whole(session, made);
+        bytes_free(&made);
+    }
+    if (status == BOOTKEEP_DONE && wanted->end != NULL)
+        wanted->end(wanted, session);
+    return status;
+}
+
 /* Keeps what was before and after the change, and makes it. */
 static uint32_t keep_and_make(struct session *session, struct wanted *wanted, const struct store *after,
                               struct bootkeep_machine_change *change)
@@ -343,10 +387,19 @@ static uint32_t make_settled(struct session *session, struct wanted *wanted, str
         change->entry = end.entry;
         change->replies = machine->replies_len;
         if (!session->dry_run)
-            status = keep_and_make(session, wanted, &after, change);
+            status = session->is_whole ? make_whole(session, wanted, &after, change)
+                                       : keep_and_make(session, wanted, &after, change);
     }
     store_free(&after);
     return status;
+}
+
+/* Leaves the journal of a variable file that is replaced as a whole, once what it had left is done there. */
+static uint32_t leave_journal(struct session *session, struct wanted *wanted)
+{
+    bytes_free(&session->store.journal);
+    bytes_free(&session->notes);
+    return session->dry_run ? BOOTKEEP_DONE : read_variables(session, wanted);
 }
 
 /* Hands what came of a change to the caller. */
@@ -378,6 +431,8 @@ uint32_t change_make(struct bootkeep_machine *machine, struct wanted *wanted, st
     status = session_open(session, machine, wanted);
     if (status == BOOTKEEP_DONE)
         status = settle_left(session, &made.settled);
+    if (status == BOOTKEEP_DONE && session->is_whole && made.settled != 0)
+        status = leave_journal(session, wanted);
     if (status == BOOTKEEP_DONE && wanted->begin != NULL)
         status = make_settled(session, wanted, &made);
     session_close(session);

@@ -10,11 +10,12 @@
  *     --flags NUMBER                                                   the flags of the call
  *     --expect-number NUMBER --expect-order NUMBERS --expect-journal HEX --expect-no-journal
  *
- * Calls: variables OUT, data OUT, plan, entries, add OPTION NUMBER POSITION, loader FILE DESCRIPTION [ROOT],
- * add_loader FILE DESCRIPTION [ROOT], remove, activate, deactivate, first, order NUMBERS, next NUMBER, timeout SECONDS,
- * write SET, update STREAM, undo, owed, settle, journal. A number is hexadecimal, `none` is BOOTKEEP_NO_ENTRY, and
- * numbers have commas between them. The process ends with the status, from 101 on for those of this library, with 122
- * if memory was refused before the call, with 123 if no handle is made, and with more if the words are wrong.
+ * Calls: place, variables OUT, data OUT, plan, entries, add OPTION NUMBER POSITION, loader FILE DESCRIPTION
+ * [ROOT [DISK PART]], add_loader FILE DESCRIPTION [ROOT [DISK PART]], remove, activate, deactivate, first, order
+ * NUMBERS, next NUMBER, timeout SECONDS, write SET, update STREAM, undo, owed, settle, journal. A number is
+ * hexadecimal, `none` is BOOTKEEP_NO_ENTRY, and numbers have commas between them. The process ends with the status,
+ * from 101 on for those of this library, with 122 if memory was refused before the call, with 123 if no handle is made,
+ * and with more if the words are wrong.
  */
 #include <bootkeep-linux.h>
 
@@ -196,10 +197,13 @@ static uint32_t load(struct bootkeep_machine *machine, char **call)
                                              .description = call[2],
                                              .attributes = BOOTKEEP_ATTRIBUTE_ACTIVE,
                                              .root = call[3]};
+    const char *disk = call[3] == NULL ? NULL : call[4];
     const uint8_t *option;
     size_t len;
     uint32_t status;
 
+    loader.disk = disk;
+    loader.part = disk == NULL ? 0 : number_of(call[5]);
     if (strcmp(call[0], "add_loader") == 0)
         return bootkeep_machine_add_loader(machine, &loader, BOOTKEEP_NO_ENTRY, BOOTKEEP_POSITION_LAST, flags, &change);
     status = bootkeep_machine_loader(machine, &loader, &option, &len);
@@ -272,6 +276,12 @@ static uint32_t make_call(struct bootkeep_machine *machine, char **call)
         return bootkeep_machine_timeout(machine, number_of(call[1]), flags, &change);
     if (strcmp(name, "loader") == 0 || strcmp(name, "add_loader") == 0)
         return load(machine, call);
+    if (strcmp(name, "place") == 0) {
+        status = bootkeep_machine_place(machine, &owed);
+        if (status == BOOTKEEP_DONE)
+            printf("place %u\n", (unsigned)owed);
+        return status;
+    }
     if (strcmp(name, "owed") == 0) {
         status = bootkeep_machine_owed(machine, &owed);
         if (status == BOOTKEEP_DONE)

@@ -105,7 +105,7 @@ def build(folder: Path) -> Path:
 
 
 @unittest.skipUnless(LIBRARY, "BOOTKEEP_C doesn't name the folder of the library for C")
-class MachineTest(unittest.TestCase):
+class OfMachines(unittest.TestCase):
     """Each test has a machine of its own, with the entries 0000, 0001 and 0002, in this order."""
 
     built: "tempfile.TemporaryDirectory[str]"
@@ -161,8 +161,12 @@ class MachineTest(unittest.TestCase):
 
     def call(self, *call: str, user: Optional[int] = None) -> Told:
         """Makes a call, perhaps as another user, and reads what it told."""
+        return self.told(self.words(*call), user)
+
+    def told(self, words: List[str], user: Optional[int] = None) -> Told:
+        """Runs the program by these words, perhaps as another user, and reads what it told."""
         made = subprocess.run(
-            self.words(*call), capture_output=True, text=True, check=False, user=user, group=user
+            words, capture_output=True, text=True, check=False, user=user, group=user
         )
         fault = re.search(
             r"^status (\w+) at (\d+) left (\d+) errno (\d+) kind (\w+)", made.stdout, re.M
@@ -189,6 +193,10 @@ class MachineTest(unittest.TestCase):
     def assert_refused(self, told: Told, at: int, kind: int) -> None:
         """A call was refused at a step for this."""
         self.assertEqual((told.status, told.at, told.kind), (REFUSED, at, kind), told.output)
+
+
+class MachineTest(OfMachines):
+    """Machines whose variables a folder shows."""
 
     # ---- Changes
 
@@ -430,6 +438,32 @@ class MachineTest(unittest.TestCase):
         self.assertEqual(self.call("--flags", "10", "add_loader", *words).status, 0)
         self.assertIsNotNone(self.stored("Boot0003"))
 
+    def test_the_option_of_a_loader_on_a_disk_need_not_be_mounted(self) -> None:
+        _file, *rest = self.loader("")
+        mounted = self.call("loader", *self.loader("/boot/efi/EFI/rescue/grubx64.efi"))
+        wanted = mounted.output.splitlines()[0]
+        (self.folder / "root/proc/self/mountinfo").unlink()
+        for disk, part in (("/dev/nvme0n1", "1"), ("/dev/nvme0n1", "0"), ("/dev/nvme0n1p1", "0")):
+            for name in ("\\EFI\\rescue\\grubx64.efi", "EFI/rescue/grubx64.efi"):
+                told = self.call("loader", name, *rest, disk, part)
+                self.assertEqual(told.output.splitlines()[0], wanted, (disk, part, name))
+        added = self.call("add_loader", "\\no\\such.efi", *rest, "/dev/nvme0n1", "1")
+        self.assertEqual((added.status, added.entry), (0, "00003"), added.output)
+        self.assertIn("remark \\no\\such.efi: not looked at", added.output)
+
+    def test_a_disk_or_a_partition_that_is_not_there_is_refused(self) -> None:
+        _file, *rest = self.loader("")
+        self.assertEqual(self.call("loader", "x", *rest, "/dev/nvme0n1", "9").kind, 0x801B)
+        self.assertEqual(self.call("loader", "x", *rest, "/dev/nvme0n1p1", "2").kind, 0x801B)
+        (self.folder / "root/dev/sda").write_bytes(b"")
+        self.assertEqual(self.call("loader", "x", *rest, "/dev/sda", "1").kind, 0x801A)
+        self.assertEqual(self.call("loader", "x", *rest, "/boot/efi", "1").kind, 0x801A)
+        missing = self.call("loader", "x", *rest, "/dev/sdb", "1")
+        self.assertEqual((missing.status, missing.error), (SYSTEM, ENOENT), missing.output)
+        self.assertEqual(
+            self.call("loader", "x\U0001f600", *rest, "/dev/nvme0n1", "1").kind, 0x8014
+        )
+
     def test_a_loader_that_is_on_no_known_partition_is_refused(self) -> None:
         words = self.loader("/boot/efi/EFI/rescue/grubx64.efi")
         (told,) = (self.folder / "root/sys/devices").glob("**/nvme0n1p1")
@@ -479,6 +513,67 @@ class MachineTest(unittest.TestCase):
         self.assertEqual(self.call("settle").status, 0)
         self.assertFalse(self.state.exists())
 
+    def owe(self, family: str, digits: str) -> Path:
+        """Has a change of an entry of another family begun: its state folder."""
+        folder = self.state / family.lower()
+        folder.mkdir(mode=0o700)
+        begun = (
+            b"BKJ2" + field(f"{NAME} {family}".encode()) + field(b"") + b"\1\5start" + field(b"")
+        )
+        name = f"Boot{digits}".encode()
+        (folder / "journal").write_bytes(
+            begun + bytes([len(name)]) + name + field(b"") + field(ATTRIBUTES + option("driver"))
+        )
+        return folder
+
+    def test_settle_does_what_is_left_of_other_families(self) -> None:
+        order = ATTRIBUTES + numbers(0, 1, 2)
+        self.make_state(pending_journal("BootOrder", order, ATTRIBUTES + numbers(1, 0)))
+        folders = [self.owe("Driver", "0004"), self.owe("SysPrep", "000A")]
+        told = self.call("settle")
+        self.assertEqual((told.status, told.settled), (0, True), told.output)
+        self.assertEqual(self.stored("BootOrder"), numbers(1, 0))
+        self.assertEqual(self.stored("Driver0004"), option("driver"))
+        self.assertEqual(self.stored("SysPrep000A"), option("driver"))
+        self.assertEqual((self.stored("Boot0004"), self.stored("Boot000A")), (None, None))
+        for folder, family in zip(folders, ("Driver", "SysPrep")):
+            self.assertEqual((folder / "journal").read_bytes(), idle_journal(f"{NAME} {family}"))
+        again = self.call("settle")
+        self.assertEqual((again.status, again.settled), (0, False), again.output)
+
+    def test_what_is_owed_of_another_family_alone_is_owed(self) -> None:
+        self.make_state()
+        self.owe("SysPrep", "0001")
+        self.assertIn("owed 1", self.call("owed").output)
+        self.assertIn("owed 0", self.call("journal").output)
+        told = self.call("timeout", "3")
+        self.assertEqual((told.status, told.settled), (0, False), told.output)
+        self.assertIsNone(self.stored("SysPrep0001"))
+        told = self.call("--flags", "1", "settle")
+        self.assertEqual((told.status, told.settled), (0, True), told.output)
+        self.assertIsNone(self.stored("SysPrep0001"))
+        self.assertEqual(self.call("settle").status, 0)
+        self.assertEqual(self.stored("SysPrep0001"), option("driver"))
+        self.assertIn("owed 0", self.call("owed").output)
+
+    def test_a_family_is_settled_also_if_another_one_is_refused(self) -> None:
+        self.make_state(b"BKJ9")
+        driver, _prepared = self.owe("Driver", "0004"), self.owe("SysPrep", "0001")
+        (driver / "journal").write_bytes(idle_journal("another Driver"))
+        told = self.call("settle")
+        self.assert_refused(told, AT_JOURNAL, 0x0C01)
+        self.assertIn(f"path {self.state / 'journal'}\n", told.output)
+        self.assertIn(f"remark {driver / 'journal'}: it is the journal of another", told.output)
+        self.assertEqual(self.stored("SysPrep0001"), option("driver"))
+
+    def test_what_another_family_overwrites_is_told_by_its_names(self) -> None:
+        self.make_state()
+        self.owe("Driver", "0004")
+        self.store("Driver0004", b"other")
+        told = self.call("settle")
+        self.assertIn("Driver0004 was changed meanwhile, and is overwritten", told.output)
+        self.assertEqual(self.stored("Driver0004"), option("driver"))
+
     # ---- Hostile situations
 
     def test_a_state_folder_that_others_may_write_is_refused(self) -> None:
@@ -513,7 +608,16 @@ class MachineTest(unittest.TestCase):
     def test_a_file_in_the_place_of_the_variables_is_refused(self) -> None:
         self.variables = self.folder / "file"
         self.variables.write_bytes(b"")
-        self.assert_refused(self.call("first", "0002"), AT_VARIABLES, 0x8003)
+        self.assert_refused(self.call("first", "0002"), AT_VARIABLES, 0x1101)
+        self.assert_refused(self.call("place"), AT_VARIABLES, 0x1101)
+        self.assertFalse(self.state.exists())
+
+    def test_a_pipe_in_the_place_of_the_variables_is_refused(self) -> None:
+        self.variables = self.folder / "pipe"
+        os.mkfifo(self.variables)
+        self.assert_refused(self.call("first", "0002"), AT_VARIABLES, 0x8004)
+        self.assert_refused(self.call("plan"), AT_VARIABLES, 0x8004)
+        self.assertFalse(self.state.exists())
 
     def test_a_folder_without_variables_is_refused(self) -> None:
         self.variables = self.folder / "empty"
