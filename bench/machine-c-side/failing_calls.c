@@ -2,9 +2,11 @@
  * Loaded before the C library, lets one call of the system fail, or ends the process before it: for bench/machine-c.
  *
  *     FAIL_AT      which call, counted from 1; 0 or nothing for none
- *     FAIL_ERROR   the number of errno with which it fails, or `kill`
+ *     FAIL_ERROR   the number of errno with which it fails, or `kill`; or `other`, which fails no call, and has another
+ *                  program put the file at FAIL_FROM in the place of the one at FAIL_TO before it
  *     FAIL_LAST    if it is set, all calls from FAIL_AT on fail
- *     FAIL_COUNT   the path of a file, to which each call is written, by its number and its name
+ *     FAIL_COUNT   the path of a file, to which each call is written, by its number and its name, and the path that it
+ *                  opens
  *     FAIL_MEMORY  which request for memory is refused, counted from 1; 0 or nothing for none
  *     FAIL_ASKED   the path of a file, to which a byte is written for each request for memory
  *
@@ -39,23 +41,23 @@ static void *next_function(const char *name)
 
 #define NEXT(name) ((__typeof__(&name))next_function(#name))
 
-static void note(const char *name)
+static void note(const char *name, const char *opened)
 {
     const char *path = getenv("FAIL_COUNT");
-    char line[64];
+    char line[4200];
     int file, len;
 
     if (path == NULL)
         return;
     file = NEXT(open)(path, O_WRONLY | O_CREAT | O_APPEND, 0600);
-    len = snprintf(line, sizeof line, "%ld %s\n", counted, name);
+    len = snprintf(line, sizeof line, "%ld %s %s\n", counted, name, opened);
     if (file < 0 || NEXT(write)(file, line, (size_t)len) != len)
         abort();
     NEXT(close)(file);
 }
 
-/* Whether this call fails, with errno set. The process may end here. */
-static int fails(const char *name)
+/* Whether this call fails, which opens a path or an empty one, with errno set. The process may end here. */
+static int fails_at(const char *name, const char *opened)
 {
     const char *at = getenv("FAIL_AT"), *error = getenv("FAIL_ERROR");
     long which = at == NULL ? 0 : strtol(at, NULL, 10);
@@ -63,13 +65,23 @@ static int fails(const char *name)
     if (is_off)
         return 0;
     counted++;
-    note(name);
+    note(name, opened);
     if (which == 0 || counted < which || (counted > which && getenv("FAIL_LAST") == NULL))
         return 0;
     if (error != NULL && strcmp(error, "kill") == 0)
         kill(getpid(), SIGKILL);
+    if (error != NULL && strcmp(error, "other") == 0) {
+        if (NEXT(rename)(getenv("FAIL_FROM"), getenv("FAIL_TO")) != 0)
+            abort();
+        return 0;
+    }
     errno = error == NULL ? EIO : (int)strtol(error, NULL, 10);
     return 1;
+}
+
+static int fails(const char *name)
+{
+    return fails_at(name, "");
 }
 
 int open(const char *path, int how, ...)
@@ -83,7 +95,7 @@ int open(const char *path, int how, ...)
         mode = va_arg(more, mode_t);
         va_end(more);
     }
-    return fails("open") ? -1 : NEXT(open)(path, how, mode);
+    return fails_at("open", path) ? -1 : NEXT(open)(path, how, mode);
 }
 
 ssize_t read(int file, void *at, size_t len)
@@ -108,6 +120,7 @@ ssize_t write(int file, const void *at, size_t len)
 FAILING(int, fsync, (int file), (file))
 FAILING(int, rename, (const char *from, const char *to), (from, to))
 FAILING(int, unlink, (const char *path), (path))
+FAILING(ssize_t, readlink, (const char *path, char *to, size_t len), (path, to, len))
 FAILING(int, mkdir, (const char *path, mode_t mode), (path, mode))
 FAILING(int, stat, (const char *path, struct stat *to), (path, to))
 FAILING(int, lstat, (const char *path, struct stat *to), (path, to))

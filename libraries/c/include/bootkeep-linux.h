@@ -670,7 +670,7 @@ uint32_t bootkeep_machine_timeout(struct bootkeep_machine *machine, uint32_t sec
 /*
  * Brings the boot manager's variables to those of a set of data, as bootkeep_machine_data gives it: `bootvars write`.
  * Each has the attributes that it has on the machine, or 7. The Timeout stays if the set has none. An entry that would
- * have to be stored and is no load option, which firmware refuses, is left out, and a remark tells of it.
+ * have to be stored in a folder and is no load option, which firmware refuses, is left out, and a remark tells of it.
  *
  *     set, set_len   the set, and how many bytes it has
  *     flags          BOOTKEEP_MACHINE_DRY_RUN, BOOTKEEP_MACHINE_EMPTY

@@ -163,12 +163,11 @@ static uint32_t make_bytes(const struct session *session, struct bytes file, str
     return status;
 }
 
-/* Writes the changes over a file that has these bytes and keeps this. */
-static bool write_over(struct session *session, struct bytes file, struct bytes kept, struct reason *why)
+/* Writes the changes over a file that has these bytes and keeps this: `*is_new` is whether it has them then. */
+static bool write_over(struct session *session, struct bytes file, struct bytes kept, struct reason *why, bool *is_new)
 {
     struct bootkeep_refusal refusal;
     struct bytes bytes;
-    bool is_new;
     int error;
     uint32_t status = make_bytes(session, file, kept, &bytes, &refusal);
 
@@ -180,7 +179,7 @@ static bool write_over(struct session *session, struct bytes file, struct bytes 
             why->system_error = ENOMEM;
         return false;
     }
-    error = replace_locked(session->file_path, &session->place_lock, true, bytes, &is_new);
+    error = replace_locked(session->file_path, &session->place_lock, true, bytes, is_new);
     why->system_error = error;
     bytes_free(&bytes);
     return error == 0;
@@ -189,19 +188,21 @@ static bool write_over(struct session *session, struct bytes file, struct bytes 
 bool due_write(struct session *session, struct reason *why)
 {
     struct bytes file, kept;
-    bool written;
+    bool written, is_new = false;
 
     if (session->due_len == 0)
         return true;
     written = read_stored(session, &file, &kept, why);
     if (written && is_changed_meanwhile(session, kept)) {
         reason_set(why, session->machine->place, 0, BOOTKEEP_MACHINE_FAULT_CHANGED_MEANWHILE);
-        /* Nothing of this call was written, so nothing of it is to be taken back. */
-        texts_free(&session->begun);
         written = false;
     } else if (written && !are_made(session, kept)) {
-        written = write_over(session, file, kept, why);
+        written = write_over(session, file, kept, why, &is_new);
     }
+    /* Nothing of this call was written, so nothing of it is to be taken back: somebody else may have replaced the file.
+     */
+    if (!written && !is_new && session->doing == DOING_FIRST)
+        texts_free(&session->begun);
     due_free(session);
     bytes_free(&kept);
     bytes_free(&file);

@@ -197,13 +197,13 @@ static uint32_t check_numbers(struct session *session, struct bytes back)
 }
 
 /* Leaves of a set that is wanted what firmware takes, and keeps what no set can hold. Tells of it unless it is a look.
- */
+ * No firmware is asked of a variable file: it may have what the set has. */
 static uint32_t take(struct session *session, struct bytes *back, bool is_look)
 {
     struct refused refused = {NULL, 0};
     uint32_t status = keep_left_out(session, back);
 
-    if (status == BOOTKEEP_DONE)
+    if (status == BOOTKEEP_DONE && !session->variables.is_file)
         status = take_out_entries(session, back, &refused);
     if (status == BOOTKEEP_DONE && refused.count > 0) {
         status = take_out_of_next(back, &refused);
@@ -276,7 +276,9 @@ static uint32_t prepare_write(struct wanted *wanted, struct session *session)
         status = keep_timeout(session, &wanted->back);
     if (status == BOOTKEEP_DONE)
         status = take(session, &wanted->back, false);
-    return status == BOOTKEEP_DONE ? check_numbers(session, wanted->back) : status;
+    if (status != BOOTKEEP_DONE || session->variables.is_file)
+        return status;
+    return check_numbers(session, wanted->back);
 }
 
 /* Refuses a set without an entry. */

@@ -558,7 +558,8 @@ class MachineTest(OfMachines):
 
     def test_a_family_is_settled_also_if_another_one_is_refused(self) -> None:
         self.make_state(b"BKJ9")
-        driver, _prepared = self.owe("Driver", "0004"), self.owe("SysPrep", "0001")
+        driver = self.owe("Driver", "0004")
+        self.owe("SysPrep", "0001")
         (driver / "journal").write_bytes(idle_journal("another Driver"))
         told = self.call("settle")
         self.assert_refused(told, AT_JOURNAL, 0x0C01)

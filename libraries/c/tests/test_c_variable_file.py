@@ -1,7 +1,6 @@
 """Tests of libbootkeep-linux over emulators' variable files, as test_c_machine.py has them over folders.
 
-A variable file is made and read here by hand: a firmware volume, a store of variables in it, and a record for each of these,
-as edk2 writes them (docs/machines.md)."""
+Variable files are made and read by hand, in variable_files.py."""
 
 from __future__ import annotations
 
@@ -10,7 +9,7 @@ import os
 import subprocess
 import unittest
 from pathlib import Path
-from typing import Dict, List, Optional
+from typing import Optional
 
 from test_c_machine import (
     ABSENT,
@@ -38,72 +37,20 @@ from test_c_machine import (
     pending_journal,
     set_file,
 )
+from variable_files import (
+    ADDED,
+    DELETED,
+    OTHER_VENDOR,
+    STORE_LEN,
+    VOLUME_LEN,
+    record,
+    records_in,
+    variable_file,
+    variables_in,
+)
 
-VENDOR = bytes.fromhex("61dfe48bca93d211aa0d00e098032b8c")
-OTHER_VENDOR = bytes.fromhex("cbb219d73a3d9645a3bcdad00e67656f")
-VOLUME = bytes.fromhex("8d2bf1ff96768b4ca9852747075b4f50")
-STORE = bytes.fromhex("782cf3aa7b949a43a1802e144ec37792")
-VOLUME_LEN, STORE_LEN, RECORD_LEN = 72, 28, 60
-ADDED, DELETED = 0x3F, 0x3D
 AT_NAME = 3
-ROOM = 4096
-TAIL = b"\x5a" * 64
 NO_START = 0x8019
-
-
-def record(
-    name: str,
-    data: bytes,
-    state: int = ADDED,
-    attributes: bytes = ATTRIBUTES,
-    vendor: bytes = VENDOR,
-) -> bytes:
-    """A record of a variable."""
-    stored = name.encode("utf-16-le") + b"\0\0"
-    lengths = len(stored).to_bytes(4, "little") + len(data).to_bytes(4, "little")
-    made = b"\xaa\x55" + bytes([state, 0]) + attributes + bytes(28) + lengths + vendor
-    made += stored + data
-    return made + b"\xff" * (-len(made) % 4)
-
-
-def variable_file(*records: bytes, room: int = ROOM, free: bytes = b"") -> bytes:
-    """A variable file with these records, and these bytes after them."""
-    area = b"".join(records) + free
-    area += b"\xff" * (room - len(area))
-    store = STORE + (STORE_LEN + room).to_bytes(4, "little") + b"\x5a\xfe" + bytes(6)
-    volume_len = VOLUME_LEN + STORE_LEN + room
-    head = bytes(16) + VOLUME + volume_len.to_bytes(8, "little") + b"_FVH\xff\xfe\x04\0"
-    head += VOLUME_LEN.to_bytes(2, "little") + bytes(2) + bytes(3) + b"\2"
-    head += (1).to_bytes(4, "little") + volume_len.to_bytes(4, "little") + bytes(8)
-    words = [int.from_bytes(head[i : i + 2], "little") for i in range(0, len(head), 2)]
-    checksum = -sum(words) & 0xFFFF
-    head = head[:50] + checksum.to_bytes(2, "little") + head[52:]
-    return head + store + area + TAIL
-
-
-def records_in(file: bytes) -> List[bytes]:
-    """The records of a variable file."""
-    found, at = [], VOLUME_LEN + STORE_LEN
-    while file[at : at + 2] == b"\xaa\x55":
-        sizes = file[at + 36 : at + 44]
-        size = int.from_bytes(sizes[:4], "little") + int.from_bytes(sizes[4:], "little")
-        end = at + RECORD_LEN + size + -size % 4
-        found.append(file[at:end])
-        at = end
-    return found
-
-
-def variables_in(file: bytes) -> Dict[str, bytes]:
-    """The variables of the standard's vendor in a variable file, with their attributes."""
-    found = {}
-    for one in records_in(file):
-        if one[2] == ADDED and one[44:60] == VENDOR:
-            name_len = int.from_bytes(one[36:40], "little")
-            data_len = int.from_bytes(one[40:44], "little")
-            name = one[RECORD_LEN : RECORD_LEN + name_len].decode("utf-16-le")[:-1]
-            data = one[RECORD_LEN + name_len : RECORD_LEN + name_len + data_len]
-            found[name] = one[4:8] + data
-    return found
 
 
 class VariableFileTest(OfMachines):
@@ -128,8 +75,7 @@ class VariableFileTest(OfMachines):
         """Stores a variable, as an emulator does that takes no lock; of the base's set-up none."""
         if self.variables.suffix == ".fd":
             file = self.variables.read_bytes()
-            kept = [one for one in records_in(file)]
-            self.variables.write_bytes(variable_file(*kept, record(name, data)))
+            self.variables.write_bytes(variable_file(*records_in(file), record(name, data)))
         else:
             super().store(name, data)
 
@@ -224,6 +170,11 @@ class VariableFileTest(OfMachines):
         }
         wanted = {name: ATTRIBUTES + data for name, data in kept.items()}
         self.assertEqual(variables_in(self.variables.read_bytes()), wanted)
+
+    def test_write_stores_what_firmware_would_refuse(self) -> None:
+        given = set_file({"Boot0007": b"\1", "BootOrder": b"\7\0\0", "BootNext": b"\7"})
+        self.assertEqual(self.call("write", self.file("set", given)).status, 0)
+        self.assertEqual((self.stored("Boot0007"), self.stored("BootOrder")), (b"\1", b"\7\0\0"))
 
     def test_a_store_without_room_is_refused_and_stays(self) -> None:
         self.variables.write_bytes(
