@@ -206,11 +206,14 @@ static uint32_t make_option(struct bootkeep_machine *machine, const struct bootk
     return status;
 }
 
-/* Whether the struct has all that it had at first. */
-static bool has_size(const struct bootkeep_machine_loader *loader)
+/* Refuses a loader of which the struct hasn't all that it had at first, and the partition of no disk. */
+static uint32_t check_loader(struct bootkeep_machine *machine, const struct bootkeep_machine_loader *loader)
 {
-    return loader->size >= sizeof *loader && loader->file != NULL && loader->description != NULL &&
-           (loader->disk != NULL || loader->part == 0);
+    if (loader->size < sizeof *loader || loader->file == NULL || loader->description == NULL)
+        return call_bad_size(machine);
+    if (loader->disk == NULL && loader->part != 0)
+        return call_refused(machine, BOOTKEEP_MACHINE_AT_NONE, NULL, BOOTKEEP_MACHINE_FAULT_BAD_WORDS);
+    return BOOTKEEP_DONE;
 }
 
 uint32_t bootkeep_machine_loader(struct bootkeep_machine *machine, const struct bootkeep_machine_loader *loader,
@@ -219,9 +222,9 @@ uint32_t bootkeep_machine_loader(struct bootkeep_machine *machine, const struct 
     uint32_t status;
 
     call_begin(machine);
-    if (!has_size(loader))
-        return call_bad_size(machine);
-    status = make_option(machine, loader, false, false, &machine->answer);
+    status = check_loader(machine, loader);
+    if (status == BOOTKEEP_DONE)
+        status = make_option(machine, loader, false, false, &machine->answer);
     *option = machine->answer.at;
     *option_len = machine->answer.len;
     return status;
@@ -237,9 +240,9 @@ uint32_t bootkeep_machine_add_loader(struct bootkeep_machine *machine, const str
     uint32_t status;
 
     call_begin(machine);
-    if (!has_size(loader))
-        return call_bad_size(machine);
-    status = check_flags(machine, flags, known);
+    status = check_loader(machine, loader);
+    if (status == BOOTKEEP_DONE)
+        status = check_flags(machine, flags, known);
     if (status == BOOTKEEP_DONE)
         status = make_option(machine, loader, true, (flags & BOOTKEEP_MACHINE_FORCE) != 0, &option);
     if (status != BOOTKEEP_DONE)

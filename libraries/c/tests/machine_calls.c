@@ -202,7 +202,7 @@ static uint32_t load(struct bootkeep_machine *machine, char **call)
     size_t len;
     uint32_t status;
 
-    loader.disk = disk;
+    loader.disk = disk == NULL || *disk == '\0' ? NULL : disk;
     loader.part = disk == NULL ? 0 : number_of(call[5]);
     if (strcmp(call[0], "add_loader") == 0)
         return bootkeep_machine_add_loader(machine, &loader, BOOTKEEP_NO_ENTRY, BOOTKEEP_POSITION_LAST, flags, &change);

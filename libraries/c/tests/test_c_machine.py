@@ -460,9 +460,9 @@ class MachineTest(OfMachines):
         self.assertEqual(self.call("loader", "x", *rest, "/boot/efi", "1").kind, 0x801A)
         missing = self.call("loader", "x", *rest, "/dev/sdb", "1")
         self.assertEqual((missing.status, missing.error), (SYSTEM, ENOENT), missing.output)
-        self.assertEqual(
-            self.call("loader", "x\U0001f600", *rest, "/dev/nvme0n1", "1").kind, 0x8014
-        )
+        unread = self.call("loader", "x\U0001f600", *rest, "/dev/nvme0n1", "1")
+        self.assertEqual(unread.kind, 0x8014, unread.output)
+        self.assert_refused(self.call("loader", "x", *rest, "", "1"), 0, 0x8017)
 
     def test_a_loader_that_is_on_no_known_partition_is_refused(self) -> None:
         words = self.loader("/boot/efi/EFI/rescue/grubx64.efi")

@@ -84,7 +84,7 @@ from ._machine_faults import (
     Unmet,
     Unsettled,
 )
-from ._machine_numbers import Left, MachineFault, MachineStage
+from ._machine_numbers import Left, MachineFault, MachinePlace, MachineStage
 from ._machines import (
     Expected,
     Machine,
@@ -251,6 +251,7 @@ __all__ = [
     "MachineFailure",
     "MachineFault",
     "MachineJournal",
+    "MachinePlace",
     "MachinePlan",
     "MachineRefused",
     "MachineReply",

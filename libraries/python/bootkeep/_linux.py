@@ -112,6 +112,9 @@ class RawLoader(ctypes.Structure):
         ("optional", c_char_p),
         ("optional_len", c_size_t),
         ("root", c_char_p),
+        ("disk", c_char_p),
+        ("part", c_uint32),
+        ("reserved_part", c_uint32),
     ]
 
 
@@ -148,6 +151,7 @@ _CALLS: Dict[str, Tuple[Any, ...]] = {
     "bootkeep_machine_remark": (c_void_p, c_size_t, POINTER(c_char_p)),
     "bootkeep_machine_open": (POINTER(RawOptions), POINTER(c_void_p)),
     "bootkeep_machine_words": (c_void_p, POINTER(c_char_p), c_size_t),
+    "bootkeep_machine_place": (c_void_p, POINTER(c_uint32)),
     "bootkeep_machine_variables": (c_void_p, *_BYTES),
     "bootkeep_machine_data": (c_void_p, *_BYTES),
     "bootkeep_machine_plan": (c_void_p, POINTER(RawPlan)),

@@ -25,7 +25,7 @@ class MachineStage(Numbers):
     NONE = 0
     #: To make, look at or lock the state folder.
     STATE = 1
-    #: To lock or read the folder of the variables.
+    #: To lock or read the variables.
     VARIABLES = 2
     #: To find what the machine is called, or the identity of its start.
     NAME = 3
@@ -52,6 +52,17 @@ class Left(Numbers):
     TAKEN_BACK = 1
     #: The journal has what is left to do, and the next change begins with it: it may still happen.
     OWED = 2
+    #: The variable file has the change, and a loss of power may bring back what it was before.
+    UNSURE = 3
+
+
+class MachinePlace(Numbers):
+    """What a machine's variables are in."""
+
+    #: A folder as Linux shows them.
+    FOLDER = 1
+    #: An emulator's variable file.
+    FILE = 2
 
 
 class MachineFault(Numbers):
@@ -61,9 +72,10 @@ class MachineFault(Numbers):
     SHARED_STATE = 0x8001
     #: The state folder belongs neither to root nor to the user.
     FOREIGN_STATE = 0x8002
-    #: No folder is where the state folder or the variables are to be.
+    #: No folder is where the state folder is to be.
     NO_FOLDER = 0x8003
-    #: A link, a pipe, a device, a socket or a folder is where a file is to be.
+    #: A link, a pipe, a device, a socket or a folder is where a file is to be, or none of a folder and a file where the
+    #: variables are to be.
     IRREGULAR = 0x8004
     #: A file has more bytes than are read of it.
     TOO_MUCH = 0x8005
@@ -95,10 +107,20 @@ class MachineFault(Numbers):
     BAD_LOADER_NAME = 0x8014
     #: Firmware doesn't start the loader: the fault within is one of images.
     NOT_STARTED = 0x8015
-    #: The variable isn't what was read of it any more: something else has changed it meanwhile.
+    #: The variable, or what is at the path of the variables, isn't what was read of it any more: something else has
+    #: changed it meanwhile.
     CHANGED_MEANWHILE = 0x8016
     #: A flag isn't one of the call, or a number is none that it takes.
     BAD_WORDS = 0x8017
+    #: After the last record of the variable file something isn't erased, at this place: there may have been more
+    #: variables, and a change would be written over them.
+    DAMAGED = 0x8018
+    #: The identity of the start is needed, and the system doesn't tell that of a variable file's machine.
+    NO_START = 0x8019
+    #: At the path of a disk there is no block device that the system knows by this name.
+    NO_DEVICE = 0x801A
+    #: The disk hasn't got a partition of this number, or the partition that is named has another one.
+    OTHER_PARTITION = 0x801B
 
 
 class Option(IntFlag):

@@ -25,7 +25,7 @@ from ._linux import (
     linux,
 )
 from ._machine_faults import ChangedSince, machine_error, new_fault
-from ._machine_numbers import Expects, Flag, Option
+from ._machine_numbers import Expects, Flag, MachinePlace, Option
 from ._numbers import DONE, NO_ENTRY, Attributes, EditedKind, EntryState, Position, Same
 from ._options import LoadOption
 from ._owned import Owned
@@ -190,11 +190,13 @@ class Machine(Owned):
         keeps_records: bool = True,
         words: Words = (),
     ) -> None:
-        """``variables`` is the folder in which Linux shows the variables, and ``state`` that of the journal and the records:
-        if they are left out, ``/sys/firmware/efi/efivars`` and ``/var/lib/bootkeep``. ``name`` is what the machine is
-        called, and ``start`` the identity of its start, where what the system says of these isn't wanted. With ``adopt``
-        another machine's journal is taken over, if nothing is left to do in it; without ``keeps_records`` no change can be
-        undone. Nothing is looked at as yet. ``ImportError`` is of a system without ``libbootkeep-linux``.
+        """``variables`` is the folder in which Linux shows the variables, or an emulator's variable file, whose machine has
+        to be off, and ``state`` the folder of the journal and the records: if they are left out,
+        ``/sys/firmware/efi/efivars`` and ``/var/lib/bootkeep``. ``name`` is what the machine is called, and ``start`` the
+        identity of its start, where what the system says of these isn't wanted; of a variable file :meth:`update` and
+        :meth:`settle` need it, a text that is another one after each start. With ``adopt`` another machine's journal is
+        taken over, if nothing is left to do in it; without ``keeps_records`` no change can be undone. Nothing is looked at
+        as yet. ``ImportError`` is of a system without ``libbootkeep-linux``.
         """
         self._handle = _Handle()
         self._lock = threading.Lock()
@@ -223,6 +225,14 @@ class Machine(Owned):
             self._handle.at = c_void_p()
 
     # ---- What is there
+
+    @property
+    def place(self) -> MachinePlace:
+        """What the variables are in now. :class:`MachineRefused` is of what is neither a folder nor a variable file."""
+        with self._lock:
+            told = c_uint32()
+            self._call(self._library.bootkeep_machine_place, byref(told))
+            return MachinePlace(told.value)
 
     @property
     def variables(self) -> BootVariables:
@@ -272,19 +282,23 @@ class Machine(Owned):
         attributes: int = Attributes.ACTIVE,
         optional: Bytes = b"",
         root: Optional[PathLike] = None,
+        disk: Optional[PathLike] = None,
+        part: Optional[int] = None,
     ) -> LoadOption:
-        """The load option of a loader, whose file is on a partition that is mounted, as ``/boot/efi/EFI/debian/shimx64.efi``.
+        """The load option of a loader, whose file is on a partition that is mounted, as ``/boot/efi/EFI/debian/shimx64.efi``;
+        or with ``disk`` on the partition ``part`` of that, or on its first, under this name, and need not be there.
         With ``root`` the file, and what is read of ``/proc``, ``/sys`` and ``/dev``, is below that folder. Nothing is
-        changed. :class:`MachineRefused` has ``NO_PARTITION``, ``UNKNOWN_PARTITION`` or ``BAD_LOADER_NAME``, or
-        a fault of load options."""
-        loader = _loader(file, description, attributes, optional, root)
+        changed. :class:`MachineRefused` has ``NO_PARTITION``, ``UNKNOWN_PARTITION``, ``BAD_LOADER_NAME``, ``NO_DEVICE`` or
+        ``OTHER_PARTITION``, or a fault of load options."""
+        loader = _loader(file, description, attributes, optional, root, disk, part)
         return LoadOption.from_bytes(
             self._bytes(self._library.bootkeep_machine_loader, byref(loader))
         )
 
     @property
     def owed(self) -> bool:
-        """Whether an earlier change has left something to do. The next change does it first, and :meth:`settle` alone."""
+        """Whether an earlier change has left something to do. The next change does it first, and :meth:`settle` alone; what
+        is left of Driver#### and SysPrep#### only that."""
         with self._lock:
             told = c_uint32()
             self._call(self._library.bootkeep_machine_owed, byref(told))
@@ -306,6 +320,8 @@ class Machine(Owned):
         attributes: int = Attributes.ACTIVE,
         optional: Bytes = b"",
         root: Optional[PathLike] = None,
+        disk: Optional[PathLike] = None,
+        part: Optional[int] = None,
         number: Optional[int] = None,
         position: Position = Position.LAST,
         first: bool = False,
@@ -315,7 +331,7 @@ class Machine(Owned):
         words: Optional[Words] = None,
     ) -> MachineChange:
         """Adds an entry: a load option, or the one of the file ``loader``, as of :meth:`loader`, with this ``description``,
-        ``attributes``, ``optional`` data and ``root``. It gets this ``number``, or the lowest free one, and comes last in BootOrder
+        ``attributes``, ``optional`` data, ``root``, ``disk`` and ``part``. It gets this ``number``, or the lowest free one, and comes last in BootOrder
         unless ``position`` says otherwise, or ``first``. If an entry with its description and its paths is there, nothing
         is changed, unless it is added ``again``.
 
@@ -330,7 +346,8 @@ class Machine(Owned):
             given: Tuple[Any, ...] = bytes_in(option if option is not None else b"")
             call = self._library.bootkeep_machine_add
         else:
-            given = (byref(_loader(loader, description or "", attributes, optional, root)),)
+            made = _loader(loader, description or "", attributes, optional, root, disk, part)
+            given = (byref(made),)
             call = self._library.bootkeep_machine_add_loader
         return self._change(call, *given, *where, flags=flags, dry_run=dry_run, words=words)
 
@@ -405,7 +422,7 @@ class Machine(Owned):
         words: Optional[Words] = None,
     ) -> MachineChange:
         """Brings the boot manager's variables to those of a set, as :attr:`variables` has it. Timeout stays if the set has
-        none, and an entry that is no load option is left out, which :attr:`remarks` tells. A set without an entry is
+        none, and in a folder an entry that is no load option is left out, which :attr:`remarks` tells. A set without an entry is
         refused, ``EMPTY``, unless that is to be so."""
         call, flags = self._library.bootkeep_machine_write, _flag(empty, Flag.EMPTY)
         return self._change(call, *bytes_in(variables), flags=flags, dry_run=dry_run, words=words)
@@ -445,7 +462,8 @@ class Machine(Owned):
         return self._change(call, flags=flags, dry_run=dry_run, words=words)
 
     def settle(self, *, dry_run: bool = False) -> MachineChange:
-        """Does what an earlier change has left to do, and no more: ``is_settled`` says whether there was something."""
+        """Does what an earlier change has left to do, and no more, in a folder also of Driver#### and SysPrep####:
+        ``is_settled`` says whether there was something."""
         return self._change(self._library.bootkeep_machine_settle, dry_run=dry_run, words=None)
 
     # ---- Calls
@@ -556,9 +574,17 @@ def _held(place: Optional[int], count: int) -> bytes:
 
 
 def _loader(
-    file: PathLike, description: str, attributes: int, optional: Bytes, root: Optional[PathLike]
+    file: PathLike,
+    description: str,
+    attributes: int,
+    optional: Bytes,
+    root: Optional[PathLike],
+    disk: Optional[PathLike],
+    part: Optional[int],
 ) -> RawLoader:
-    """What a call is handed of a loader."""
+    """What a call is handed of a loader. ``ValueError`` is of a partition without a disk, and of the number 0."""
+    if part is not None and (disk is None or part == 0):
+        raise ValueError("part is the number of a partition of a disk, from 1 on")
     data, count = bytes_in(optional)
     return RawLoader(
         size=sizeof(RawLoader),
@@ -568,6 +594,8 @@ def _loader(
         optional=data,
         optional_len=count,
         root=_path(root),
+        disk=_path(disk),
+        part=0 if part is None else number_in(part, 32),
     )
 
 

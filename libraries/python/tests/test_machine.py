@@ -28,6 +28,7 @@ from bootkeep import (
     LoadOption,
     Machine,
     MachineFault,
+    MachinePlace,
     MachineStage,
     MoveKind,
     Same,
@@ -110,6 +111,7 @@ class Reading(OfMachines):
     def test_nothing_is_made(self) -> None:
         self.machine.plan()
         self.assertFalse(self.machine.owed)
+        self.assertEqual(self.machine.place, MachinePlace.FOLDER)
         self.assertEqual(self.machine.journal().next_number, 0)
         self.assertIsNone(self.machine.journal().identity)
         self.assertFalse(self.state.exists())
@@ -295,6 +297,24 @@ class Loaders(OfMachines):
         self.expect()
         self.assertEqual(self.machine.add(**given, force=True).entry, 5)  # type: ignore[arg-type]
 
+    def test_one_on_a_disk_need_not_be_mounted(self) -> None:
+        (self.system / "proc/self/mountinfo").unlink()
+        name = "\\EFI\\debian\\shimx64.efi"
+        for disk, part in (("/dev/nvme0n1", 1), ("/dev/nvme0n1", None), ("/dev/nvme0n1p1", None)):
+            option = self.machine.loader(name, "Mine", root=self.system, disk=disk, part=part)
+            self.assertEqual(option, LoadOption("Mine", [self.PATH]))
+        added = self.machine.add(
+            loader=name, description="Mine", root=self.system, disk="/dev/nvme0n1", part=1
+        )
+        self.assertEqual(added.entry, 5)
+        self.assertIn("not looked at", added.remarks[0])
+        with self.assertRaises(bootkeep.MachineRefused) as raised:
+            self.machine.loader(name, "Mine", root=self.system, disk="/dev/nvme0n1", part=9)
+        self.assertEqual(raised.exception.fault, MachineFault.OTHER_PARTITION)
+        for given in (None, "/dev/nvme0n1"):
+            with self.assertRaises(ValueError):
+                self.machine.loader(name, "Mine", root=self.system, disk=given, part=0)
+
     def test_one_whose_name_firmware_cannot_read_is_refused(self) -> None:
         (self.system / "boot/efi/a\\b.efi").write_bytes(b"")
         with self.assertRaises(bootkeep.MachineRefused) as raised:
@@ -389,6 +409,74 @@ class Settling(OfMachines):
         change = self.machine.timeout(5)
         self.assertTrue(change.is_settled)
         self.expect(BootOrder=bytes.fromhex("00000500010002000300"), Timeout=b"\5\0")
+
+
+class VariableFiles(unittest.TestCase):
+    """A machine whose variables are in an emulator's variable file: the example's, with the entries 0000 and 0001."""
+
+    def setUp(self) -> None:
+        folder = tempfile.TemporaryDirectory()
+        self.addCleanup(folder.cleanup)
+        self.root = Path(folder.name)
+        self.file, self.state = self.root / "vars.fd", self.root / "state"
+        shutil.copy(ROOT / "docs/examples/vars.fd", self.file)
+        self.before = self.kept()
+        self.machine = Machine(self.file, state=self.state, start="1")
+        self.addCleanup(self.machine.close)
+
+    def kept(self) -> Dict[str, bytes]:
+        """What the file has: the data of each variable, its attributes first."""
+        return bootkeep.vars_list(bootkeep.store_vars(self.file.read_bytes()))
+
+    def test_what_is_there(self) -> None:
+        self.assertEqual(self.machine.place, MachinePlace.FILE)
+        self.assertEqual(str(self.machine.plan()), "plan next - normal 0001 0000")
+        self.assertEqual(self.machine.kept, BootVariables(self.before))
+        self.assertFalse(self.state.exists())
+
+    def test_an_entry_is_added_first_and_undone(self) -> None:
+        change = self.machine.add(OPTION, first=True)
+        self.assertEqual((change.entry, change.record), (2, 1))
+        wanted = {"Boot0002": KEPT + bytes(OPTION), "BootOrder": KEPT + b"\2\0\1\0\0\0"}
+        self.assertEqual(self.kept(), {**self.before, **wanted})
+        self.machine.undo()
+        self.assertEqual(self.kept(), self.before)
+
+    def test_a_request_is_applied_once(self) -> None:
+        self.state.mkdir(mode=0o700)
+        for kind in ("APPLIED", "REPEAT"):
+            (reply,) = self.machine.update([bootkeep.Next(0).frame(0)])
+            self.assertEqual(reply.kind.name, kind)
+        self.assertEqual(self.kept(), {**self.before, "BootNext": KEPT + b"\0\0"})
+
+    def test_the_start_is_needed_for_requests(self) -> None:
+        self.state.mkdir(mode=0o700)
+        with Machine(self.file, state=self.state) as machine:
+            machine.timeout(4)
+            with self.assertRaises(bootkeep.MachineRefused) as raised:
+                machine.update([bootkeep.Next(0).frame(0)])
+        self.assertEqual(raised.exception.fault, MachineFault.NO_START)
+        self.assertEqual(self.kept(), {**self.before, "Timeout": KEPT + b"\4\0"})
+
+    def test_what_is_no_variable_file_is_refused(self) -> None:
+        whole = self.file.read_bytes()
+        self.file.write_bytes(b"BVS1")
+        for call in ("plan", "first"):
+            with self.assertRaises(bootkeep.MachineRefused) as raised:
+                getattr(self.machine, call)(*([0] if call == "first" else []))
+            self.assertEqual(raised.exception.fault, Fault.STORE_NO_VOLUME)
+        with self.assertRaises(bootkeep.MachineRefused):
+            self.assertIsNone(self.machine.place)
+        end = whole.rindex(b"\xaa\x55")
+        damaged = whole[: end + 400] + b"x" + whole[end + 401 :]
+        self.file.write_bytes(damaged)
+        with self.assertRaises(bootkeep.MachineRefused) as raised:
+            self.machine.first(0)
+        self.assertEqual(raised.exception.fault, MachineFault.DAMAGED)
+        self.assertEqual(raised.exception.failure.place, end + 400)
+        self.assertEqual(self.file.read_bytes(), damaged)
+        self.assertEqual(self.machine.plan().normal, (1, 0))
+        self.assertIn("damaged at byte", self.machine.remarks[0])
 
 
 class Faults(OfMachines):

@@ -96,6 +96,9 @@ struct RawLoader {
     optional: *const u8,
     optional_len: usize,
     root: *const c_char,
+    disk: *const c_char,
+    part: u32,
+    reserved_part: u32,
 }
 
 #[repr(C)]
@@ -126,6 +129,7 @@ extern "C" {
     fn bootkeep_machine_open(options: *const RawOptions, machine: *mut *mut RawMachine) -> u32;
     fn bootkeep_machine_close(machine: *mut RawMachine);
     fn bootkeep_machine_words(machine: *mut RawMachine, words: *const *const c_char, count: usize) -> u32;
+    fn bootkeep_machine_place(machine: *mut RawMachine, place: *mut u32) -> u32;
     fn bootkeep_machine_variables(machine: *mut RawMachine, set: *mut *const u8, set_len: *mut usize) -> u32;
     fn bootkeep_machine_data(machine: *mut RawMachine, set: *mut *const u8, set_len: *mut usize) -> u32;
     fn bootkeep_machine_plan(machine: *mut RawMachine, plan: *mut RawPlan) -> u32;
@@ -155,7 +159,7 @@ const _: () = assert!(size_of::<RawOptions>() == 48);
 const _: () = assert!(size_of::<RawPlan>() == 56);
 const _: () = assert!(size_of::<RawEntry>() == 72);
 const _: () = assert!(size_of::<RawMachineChange>() == 72);
-const _: () = assert!(size_of::<RawLoader>() == 56);
+const _: () = assert!(size_of::<RawLoader>() == 72);
 const _: () = assert!(size_of::<RawExpected>() == 48);
 const _: () = assert!(size_of::<RawJournal>() == 40);
 
@@ -237,6 +241,8 @@ pub(crate) struct Loader<'a> {
     pub(crate) attributes: u32,
     pub(crate) optional: &'a [u8],
     pub(crate) root: Option<CString>,
+    pub(crate) disk: Option<CString>,
+    pub(crate) part: u32,
 }
 
 /// What is expected of a machine before requests are run.
@@ -306,6 +312,13 @@ impl Handle {
         let places: Vec<*const c_char> = words.iter().map(|word| word.as_ptr()).collect();
         let status = unsafe { bootkeep_machine_words(self.0.as_ptr(), places.as_ptr(), places.len()) };
         self.check(status)
+    }
+
+    pub(crate) fn place(&mut self) -> Result<u32, Box<Failure>> {
+        let mut place = 0;
+        let status = unsafe { bootkeep_machine_place(self.0.as_ptr(), &mut place) };
+        self.check(status)?;
+        Ok(place)
     }
 
     pub(crate) fn variables(&mut self) -> Result<Vec<u8>, Box<Failure>> {
@@ -542,6 +555,9 @@ fn raw_loader(loader: &Loader<'_>) -> RawLoader {
         optional: loader.optional.as_ptr(),
         optional_len: loader.optional.len(),
         root: text_or_null(&loader.root),
+        disk: text_or_null(&loader.disk),
+        part: loader.part,
+        reserved_part: 0,
     }
 }
 

@@ -33,6 +33,7 @@ use crate::vars::{self, entry_number, EntryState, Position};
 use std::ffi::CString;
 use std::fmt;
 use std::io;
+use std::num::NonZeroU32;
 use std::os::unix::ffi::OsStrExt;
 use std::path::{Path, PathBuf};
 
@@ -59,9 +60,10 @@ impl MachineOptions {
         MachineOptions::default()
     }
 
-    /// The folder in which Linux shows the variables, in the place of `/sys/firmware/efi/efivars`.
-    pub fn variables(mut self, folder: impl Into<PathBuf>) -> MachineOptions {
-        self.variables = Some(folder.into());
+    /// The folder in which Linux shows the variables, in the place of `/sys/firmware/efi/efivars`; or an emulator's variable
+    /// file, whose machine has to be off.
+    pub fn variables(mut self, place: impl Into<PathBuf>) -> MachineOptions {
+        self.variables = Some(place.into());
         self
     }
 
@@ -77,7 +79,8 @@ impl MachineOptions {
         self
     }
 
-    /// The identity of the machine's start, in the place of that of `/proc/sys/kernel/random/boot_id`.
+    /// The identity of the machine's start, in the place of that of `/proc/sys/kernel/random/boot_id`. Of a variable file
+    /// [`Machine::update`] and [`Machine::settle`] need it: a text that is another one after each start of its machine.
     pub fn start(mut self, start: impl Into<String>) -> MachineOptions {
         self.start = Some(start.into());
         self
@@ -130,10 +133,10 @@ pub enum Mode {
     DryRun,
 }
 
-/// A file that firmware is to start. It is on a partition that is mounted.
+/// A file that firmware is to start. It is on a partition that is mounted, or on a disk that is named.
 #[derive(Clone, Copy, Debug, PartialEq, Eq, Hash)]
 pub struct Loader<'a> {
-    /// The path of the file, as `/boot/efi/EFI/debian/shimx64.efi`.
+    /// The path of the file, as `/boot/efi/EFI/debian/shimx64.efi`; on a disk that is named its name there.
     pub file: &'a Path,
     /// The description of the entry.
     pub description: &'a str,
@@ -144,12 +147,16 @@ pub struct Loader<'a> {
     /// A folder that stands for the root of the system: the file, and what is read of `/proc`, `/sys` and `/dev`, is below
     /// it.
     pub root: Option<&'a Path>,
+    /// The disk that it is on, or a partition, as `/dev/nvme0n1`, which need not be mounted: the file isn't looked at then.
+    pub disk: Option<&'a Path>,
+    /// The number of the partition of the disk, in the place of the first.
+    pub part: Option<NonZeroU32>,
 }
 
 impl<'a> Loader<'a> {
     /// An active option of this file, without optional data.
     pub fn new(file: &'a Path, description: &'a str) -> Loader<'a> {
-        Loader { file, description, attributes: option::ACTIVE, optional: &[], root: None }
+        Loader { file, description, attributes: option::ACTIVE, optional: &[], root: None, disk: None, part: None }
     }
 
     fn for_c(&self) -> Result<linux::Loader<'a>, MachineError> {
@@ -159,6 +166,8 @@ impl<'a> Loader<'a> {
             attributes: self.attributes,
             optional: self.optional,
             root: self.root.map(path_for_c).transpose()?,
+            disk: self.disk.map(path_for_c).transpose()?,
+            part: self.part.map_or(0, NonZeroU32::get),
         })
     }
 }
@@ -199,6 +208,18 @@ pub struct Expected<'a> {
     pub journal: Option<Option<[u8; 16]>>,
     /// The numbers of BootOrder, or that it isn't there.
     pub order: Option<Option<&'a [EntryNumber]>>,
+}
+
+/// What a machine's variables are in.
+#[derive(Clone, Copy, Debug, PartialEq, Eq, Hash)]
+#[non_exhaustive]
+pub enum MachinePlace {
+    /// A folder as Linux shows them.
+    Folder,
+    /// An emulator's variable file.
+    File,
+    /// A later version's.
+    Other(u32),
 }
 
 /// What a boot would try (UEFI 2.10, 3.3). As a text it is that of its [`vars::Plan`].
@@ -342,6 +363,15 @@ impl Machine {
         Ok(self.0.words(&words?)?)
     }
 
+    /// What the variables are in now. What is neither a folder nor a variable file is refused.
+    pub fn place(&mut self) -> Result<MachinePlace, MachineError> {
+        Ok(match self.0.place()? {
+            PLACE_FOLDER => MachinePlace::Folder,
+            PLACE_FILE => MachinePlace::File,
+            other => MachinePlace::Other(other),
+        })
+    }
+
     /// The variables as they are now, without their attributes: a set, as the calls of [`vars`] take it.
     pub fn variables(&mut self) -> Result<Vec<u8>, MachineError> {
         Ok(self.0.data()?)
@@ -375,7 +405,8 @@ impl Machine {
         Ok(MachineJournal { next_number: told.next_number, identity: told.identity, is_owed: told.is_owed })
     }
 
-    /// Whether an earlier change has left something to do. The next change does it first, and [`Machine::settle`] alone.
+    /// Whether an earlier change has left something to do. The next change does it first, and [`Machine::settle`] alone;
+    /// what is left of Driver#### and SysPrep#### only that.
     pub fn owed(&mut self) -> Result<bool, MachineError> {
         Ok(self.0.owed()?)
     }
@@ -386,7 +417,8 @@ impl Machine {
     }
 
     /// The load option of a loader. Nothing is changed. Faults are [`MachineFault::NoPartition`],
-    /// [`MachineFault::UnknownPartition`] and [`MachineFault::BadLoaderName`], and those of load options.
+    /// [`MachineFault::UnknownPartition`], [`MachineFault::BadLoaderName`], [`MachineFault::NoDevice`] and
+    /// [`MachineFault::OtherPartition`], and those of load options.
     pub fn loader(&mut self, loader: &Loader<'_>) -> Result<LoadOption, MachineError> {
         let bytes = self.0.loader(&loader.for_c()?)?;
         LoadOption::try_from(bytes).map_err(MachineError::of_library)
@@ -449,7 +481,7 @@ impl Machine {
     }
 
     /// Brings the boot manager's variables to those of a set, as [`Machine::variables`] gives it. Timeout stays if the set
-    /// has none, and an entry that is no load option is left out, which a remark tells. A set without an entry is refused,
+    /// has none, and in a folder an entry that is no load option is left out, which a remark tells. A set without an entry is refused,
     /// [`MachineFault::Empty`], unless `empty` says that all are to be taken out.
     pub fn write(&mut self, set: &[u8], empty: bool, mode: Mode) -> Result<MachineChange, MachineError> {
         self.change(&Wanted::Write(set), flag(empty, EMPTY), mode)
@@ -483,7 +515,7 @@ impl Machine {
         self.change(&Wanted::Undo, flag(force, FORCE), mode)
     }
 
-    /// Does what an earlier change has left to do, and no more.
+    /// Does what an earlier change has left to do, and no more, in a folder also of Driver#### and SysPrep####.
     pub fn settle(&mut self, mode: Mode) -> Result<MachineChange, MachineError> {
         self.change(&Wanted::Settle, 0, mode)
     }
@@ -651,6 +683,8 @@ pub enum Left {
     TakenBack,
     /// The journal has what is left to do, and the next change begins with it.
     Owed,
+    /// The variable file has the change, and a loss of power may bring back what it was before.
+    Unsure,
     /// Something that this crate doesn't know.
     Other(u32),
 }
@@ -829,6 +863,7 @@ impl Left {
             LEFT_NOTHING => Left::Nothing,
             LEFT_TAKEN_BACK => Left::TakenBack,
             LEFT_OWED => Left::Owed,
+            LEFT_UNSURE => Left::Unsure,
             other => Left::Other(other),
         }
     }
@@ -876,9 +911,10 @@ machine_faults! {
     SharedState = 0x8001,
     /// The state folder belongs neither to root nor to the user.
     ForeignState = 0x8002,
-    /// No folder is where the state folder or the variables are to be.
+    /// No folder is where the state folder is to be.
     NoFolder = 0x8003,
-    /// A link, a pipe, a device, a socket or a folder is where a file is to be.
+    /// A link, a pipe, a device, a socket or a folder is where a file is to be, or none of a folder and a file where the
+    /// variables are to be.
     Irregular = 0x8004,
     /// A file has more bytes than are read of it.
     TooMuch = 0x8005,
@@ -910,8 +946,18 @@ machine_faults! {
     BadLoaderName = 0x8014,
     /// Firmware doesn't start the loader: the fault within is one of images.
     NotStarted = 0x8015,
-    /// The variable isn't what was read of it any more: something else has changed it meanwhile.
+    /// The variable, or what is at the path of the variables, isn't what was read of it any more: something else has
+    /// changed it meanwhile.
     ChangedMeanwhile = 0x8016,
     /// A flag isn't one of the call, or a number is none that it takes.
     BadWords = 0x8017,
+    /// After the last record of the variable file something isn't erased, at this place: there may have been more
+    /// variables, and a change would be written over them.
+    Damaged = 0x8018,
+    /// The identity of the start is needed, and the system doesn't tell that of a variable file's machine.
+    NoStart = 0x8019,
+    /// At the path of a disk there is no block device that the system knows by this name.
+    NoDevice = 0x801a,
+    /// The disk hasn't got a partition of this number, or the partition that is named has another one.
+    OtherPartition = 0x801b,
 }

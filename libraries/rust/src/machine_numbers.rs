@@ -24,6 +24,10 @@ pub(crate) const AT_LOADER: u32 = 9;
 pub(crate) const LEFT_NOTHING: u32 = 0;
 pub(crate) const LEFT_TAKEN_BACK: u32 = 1;
 pub(crate) const LEFT_OWED: u32 = 2;
+pub(crate) const LEFT_UNSURE: u32 = 3;
+
+pub(crate) const PLACE_FOLDER: u32 = 1;
+pub(crate) const PLACE_FILE: u32 = 2;
 
 pub(crate) const ADOPT: u32 = 0x01;
 pub(crate) const NO_RECORD: u32 = 0x02;

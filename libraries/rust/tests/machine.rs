@@ -5,14 +5,16 @@
 
 use bootkeep::frame::{self, Request};
 use bootkeep::machine::{
-    ErrorKind, Expected, Left, Loader, LoaderAddition, Machine, MachineFault, MachineOptions, MachineStage, Mode,
+    ErrorKind, Expected, Left, Loader, LoaderAddition, Machine, MachineFault, MachineOptions, MachinePlace,
+    MachineStage, Mode,
 };
 use bootkeep::vars::{self, Addition, Edit, EditOutcome, EntryState, NewOrder};
-use bootkeep::{option, EntryNumber, Fault, LoadOption, MachineState, Move, Moves, Same, SetFile};
+use bootkeep::{option, store, EntryNumber, Fault, LoadOption, MachineState, Move, Moves, Same, SetFile};
 use std::collections::BTreeMap;
 use std::env;
 use std::fs;
 use std::io;
+use std::num::NonZeroU32;
 use std::path::{Path, PathBuf};
 use std::process;
 use std::sync::atomic::{AtomicU32, Ordering};
@@ -122,6 +124,7 @@ fn what_is_there_is_read() {
     }
     assert_eq!(vars::get(&machine.kept().unwrap(), "BootNext").unwrap(), [7, 0, 0, 0, 4, 0]);
     assert!(!machine.owed().unwrap() && !folder.state().exists());
+    assert_eq!(machine.place().unwrap(), MachinePlace::Folder);
 }
 
 #[test]
@@ -158,6 +161,12 @@ fn a_loader_is_added_first() {
     let path = r"HD(1,GPT,5f2c1a9e-7d64-4b0e-9c3b-1e8f60a2d7c4,0x800,0x64000)/\EFI\debian\shimx64.efi";
     let wanted = LoadOption::new(option::ACTIVE, "Mine", &[path.parse().unwrap()], b"a").unwrap();
     assert_eq!(machine.loader(&loader).unwrap(), wanted);
+    let disk = Some(Path::new("/dev/nvme0n1"));
+    let on_disk = Loader { file: Path::new(r"EFI\debian\shimx64.efi"), disk, ..loader };
+    assert_eq!(machine.loader(&on_disk).unwrap(), wanted);
+    let ninth = Loader { part: NonZeroU32::new(9), ..on_disk };
+    let refusal = machine.loader(&ninth).unwrap_err().refusal().unwrap();
+    assert_eq!(refusal.fault, MachineFault::OtherPartition);
     let change = machine.add_loader(&LoaderAddition::new(loader).first(), Mode::Real).unwrap();
     assert_eq!(change.edited, EditOutcome::Added(EntryNumber(5)));
     assert_eq!(folder.files(), with(&before, &[("Boot0005", Some(wanted.as_ref())), ("BootOrder", Some(&ORDER))]));
@@ -259,6 +268,40 @@ fn what_was_cut_off_is_settled() {
     assert!(machine.settle(Mode::Real).unwrap().is_settled);
     assert_eq!(folder.files()["BootOrder"][4..], [0, 0, 5, 0, 1, 0, 2, 0, 3, 0]);
     assert!(!machine.owed().unwrap());
+}
+
+/// What a variable file has, its attributes first: its name and its data.
+fn stored(file: &Path) -> BTreeMap<String, Vec<u8>> {
+    let kept = store::vars(&fs::read(file).unwrap()).unwrap();
+    vars::list(&kept).unwrap().map(|(name, data)| (name.to_owned(), data.to_vec())).collect()
+}
+
+#[test]
+fn a_variable_file_is_changed_and_undone() {
+    let folder = Folder::new();
+    let file = folder.0.join("vars.fd");
+    fs::copy(Path::new(env!("CARGO_MANIFEST_DIR")).join("../../docs/examples/vars.fd"), &file).unwrap();
+    let (before, mine) = (stored(&file), mine());
+    let options = MachineOptions::new().variables(&file).state(folder.state());
+    let mut machine = options.open().unwrap();
+    assert_eq!(machine.place().unwrap(), MachinePlace::File);
+    assert_eq!(machine.plan().unwrap().to_string(), "plan next - normal 0001 0000");
+    let change = machine.add(&Addition::new(&mine).first(), Mode::Real).unwrap();
+    assert_eq!((change.edited, change.record), (EditOutcome::Added(EntryNumber(2)), Some(1)));
+    let order: &[u8] = &[2, 0, 1, 0, 0, 0];
+    assert_eq!(stored(&file), with(&before, &[("Boot0002", Some(mine.as_ref())), ("BootOrder", Some(order))]));
+    machine.undo(false, Mode::Real).unwrap();
+    assert_eq!(stored(&file), before);
+    let stream = frame::make(0, Request::Next(EntryNumber(1))).unwrap();
+    let refusal = machine.update(&stream, None, Mode::Real).unwrap_err().refusal().unwrap();
+    assert_eq!(refusal.fault, MachineFault::NoStart);
+    let replies = options.start("1").open().unwrap().update(&stream, None, Mode::Real).unwrap();
+    assert_eq!(replies.len(), 1);
+    assert_eq!(stored(&file), with(&before, &[("BootNext", Some(&[1, 0]))]));
+    fs::write(&file, "BVS1").unwrap();
+    let refusal = machine.plan().unwrap_err().refusal().unwrap();
+    assert_eq!(refusal.fault, MachineFault::Library(Fault::StoreNoVolume));
+    assert_eq!(machine.place().unwrap_err().kind(), ErrorKind::Refused);
 }
 
 #[test]
