@@ -67,6 +67,7 @@ PACKAGE_KINDS = {
 # The numbers of the header that both bindings have under the names of their members, by what these begin with.
 FAMILIES = {
     "AT": "MachineStage",
+    "PLACE": "MachinePlace",
     "LEFT": "Left",
     "FAULT": "MachineFault",
     "EXPECTS": "Expects",
