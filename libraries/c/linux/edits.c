@@ -50,11 +50,10 @@ static bool touches(const struct wanted *wanted, const char *name)
 static uint32_t check(struct wanted *wanted, struct session *session)
 {
     const struct texts *names = &session->variables.left_out;
-    char path[PATH_MAX];
 
     for (size_t i = 0; i < names->count; i++)
-        if (touches(wanted, names->at[i]) && path_join(path, session->machine->place, names->at[i]))
-            return call_refused(session->machine, BOOTKEEP_MACHINE_AT_RUN, path, BOOTKEEP_MACHINE_FAULT_LEFT_OUT);
+        if (touches(wanted, names->at[i]))
+            return variables_refuse(session->machine, &session->variables, names->at[i]);
     return BOOTKEEP_DONE;
 }
 

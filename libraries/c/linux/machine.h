@@ -276,6 +276,9 @@ uint32_t variables_let_go(struct variables *variables, struct bytes set);
 uint32_t variables_leave_out(struct bootkeep_machine *machine, struct variables *variables, const char *name,
                              const char *shown, const char *why);
 
+/* Refuses the change of the variable of this name, which no set can hold. */
+uint32_t variables_refuse(struct bootkeep_machine *machine, const struct variables *variables, const char *name);
+
 /* ---- folder.c: the folder of the variables --------------------------------------------------------------------- */
 
 /* Reads the folder of the variables. */

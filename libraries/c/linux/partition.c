@@ -335,12 +335,14 @@ uint32_t partition_of_named(const struct seeker *seeker, const char *device, uin
                             struct partition *partition)
 {
     char path[PATH_MAX];
-    char *whole = seeker_below(seeker, device, path) ? realpath(path, NULL) : NULL;
-    char *folder = NULL;
+    char *whole, *folder = NULL;
     struct stat found;
     uint64_t own;
     uint32_t status;
 
+    if (!seeker_below(seeker, device, path))
+        return seeker_fail(seeker, device, ENAMETOOLONG);
+    whole = realpath(path, NULL);
     if (whole == NULL || stat(whole, &found) != 0)
         status = seeker_fail(seeker, device, errno);
     else if ((folder = folder_of_device(seeker, whole, &found)) == NULL)

@@ -57,7 +57,6 @@ static uint32_t check(struct wanted *wanted, struct session *session)
 {
     const struct texts *names = &session->variables.left_out;
     const struct bytes stream = wanted->stream;
-    char path[PATH_MAX];
     size_t at = 0;
 
     while (names->count > 0 && stream.len - at >= HEADER_LEN) {
@@ -68,9 +67,8 @@ static uint32_t check(struct wanted *wanted, struct session *session)
         if (len > stream.len - at - HEADER_LEN)
             break;
         for (size_t i = 0; i < names->count; i++)
-            if (touches(frame[KIND_AT], frame + HEADER_LEN, len, names->at[i]) &&
-                path_join(path, session->machine->place, names->at[i]))
-                return call_refused(session->machine, BOOTKEEP_MACHINE_AT_RUN, path, BOOTKEEP_MACHINE_FAULT_LEFT_OUT);
+            if (touches(frame[KIND_AT], frame + HEADER_LEN, len, names->at[i]))
+                return variables_refuse(session->machine, &session->variables, names->at[i]);
         at += HEADER_LEN + len;
     }
     return BOOTKEEP_DONE;

@@ -52,6 +52,18 @@ uint32_t variables_leave_out(struct bootkeep_machine *machine, struct variables 
     return BOOTKEEP_DONE;
 }
 
+uint32_t variables_refuse(struct bootkeep_machine *machine, const struct variables *variables, const char *name)
+{
+    const uint32_t at = BOOTKEEP_MACHINE_AT_RUN;
+    char path[PATH_MAX], text[PATH_MAX + 128];
+
+    if (!variables->is_file && path_join(path, machine->place, name))
+        return call_refused(machine, at, path, BOOTKEEP_MACHINE_FAULT_LEFT_OUT);
+    reason_set(&machine->outcome.why, machine->place, 0, BOOTKEEP_MACHINE_FAULT_LEFT_OUT);
+    snprintf(text, sizeof text, "%s: %s has no value or too long a one, and stays as it is", machine->place, name);
+    return call_told(machine, at, BOOTKEEP_REFUSED, text);
+}
+
 /* Puts a stand-in for each entry that is left out into the set of what is kept, so that its number is taken. */
 static uint32_t take_numbers(struct bootkeep_machine *machine, struct variables *variables)
 {

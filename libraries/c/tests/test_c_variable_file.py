@@ -24,6 +24,7 @@ from test_c_machine import (
     EACCES,
     ENOENT,
     ENOSPC,
+    EROFS,
     NAME,
     SYSTEM,
     TAKEN_BACK,
@@ -279,7 +280,12 @@ class VariableFileTest(OfMachines):
         self.assertEqual((told.status, told.entry), (0, "00004"), told.output)
         self.assertIn("Boot0003 is ignored: it has no value", told.output)
         self.assertIn(empty, records_in(self.variables.read_bytes()))
-        self.assert_refused(self.call("remove", "0003"), AT_RUN, 0x800D)
+        told = self.call("remove", "0003")
+        self.assert_refused(told, AT_RUN, 0x800D)
+        self.assertEqual(
+            told.text,
+            f"{self.variables}: Boot0003 has no value or too long a one, and stays as it is",
+        )
         given = set_file({"Boot0003": option("other"), "BootOrder": numbers(3)})
         self.assertEqual(self.call("write", self.file("set", given)).status, 0)
         self.assertEqual(self.stored("Boot0003"), option("other"))
@@ -431,6 +437,29 @@ class VariableFileTest(OfMachines):
         self.assertEqual(
             (told.status, told.at, told.error), (SYSTEM, AT_VARIABLES, EACCES), told.output
         )
+
+    @unittest.skipIf(os.getuid(), "only root may write what is read-only")
+    def test_a_file_that_is_read_only_stays_so(self) -> None:
+        self.variables.chmod(0o444)
+        self.assertEqual(self.call("first", "0002").status, 0)
+        self.assertEqual(self.stored("BootOrder"), numbers(2, 0, 1))
+        self.assertEqual(self.variables.stat().st_mode & 0o777, 0o444)
+
+    def test_a_file_on_a_disk_that_is_read_only_is_told(self) -> None:
+        if subprocess.run(["unshare", "-m", "true"], capture_output=True, check=False).returncode:
+            self.skipTest("nothing can be mounted here")
+        before = self.variables.read_bytes()
+        disk = self.folder / "disk"
+        disk.mkdir()
+        inside = disk / "vars.fd"
+        mount = f"mount -t tmpfs none {disk} && cp {self.variables} {inside} && mount -o remount,ro {disk}"
+        self.variables = inside
+        words = ["sh", "-c", f'{mount} && exec "$@"', "sh", *self.words("first", "0002")]
+        made = subprocess.run(
+            ["unshare", "-m", *words], capture_output=True, text=True, check=False
+        )
+        self.assertRegex(made.stdout, f"status 0100 at 2 left 0 errno {EROFS}")
+        self.assertEqual((self.folder / "vars.fd").read_bytes(), before)
 
     @unittest.skipIf(os.getuid(), "only root becomes another user")
     def test_without_a_state_folder_a_change_is_made_and_cannot_be_undone(self) -> None:
