@@ -585,7 +585,7 @@ struct bootkeep_machine_loader {
 /*
  * The bytes of the load option of a loader whose file is on a partition that is mounted, or on a disk that is named:
  * its path is the partition, as the system tells it, and the name of the file there. Nothing is changed. On a disk that
- * is named the file isn't looked at, and need not be there.
+ * is named the file need not be there.
  *
  *     loader               the loader
  *     option, option_len   where the answer goes: the bytes, and how many there are
@@ -601,8 +601,8 @@ uint32_t bootkeep_machine_loader(struct bootkeep_machine *machine, const struct 
 /*
  * Adds an entry for a loader: `bootvars add --loader`. The file is looked at as bootkeep_image_check does, and what
  * firmware wouldn't start is refused, BOOTKEEP_MACHINE_FAULT_NOT_STARTED, unless BOOTKEEP_MACHINE_FORCE is given. What
- * couldn't be looked at is a remark, and so is that a file on a disk that is named isn't looked at. Secure Boot isn't
- * asked: `bootvars check` does that.
+ * couldn't be looked at is a remark, and so is that a file isn't there, or its partition isn't mounted, of a disk that
+ * is named. Secure Boot isn't asked: `bootvars check` does that.
  *
  *     loader     the loader
  *     number, position

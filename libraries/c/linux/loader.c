@@ -128,9 +128,29 @@ static bool slashed(const char *file, char name[PATH_MAX])
     return true;
 }
 
-/* The device path of the file of this name on the disk that is named. */
+/* The path at which the file of this name on a partition can be opened, or an empty one if that isn't mounted. */
+static void open_at(const struct seeker *seeker, const struct partition *partition, const char *name,
+                    char opened[PATH_MAX])
+{
+    struct mount *mount = malloc(sizeof *mount);
+    char mounts[PATH_MAX], point[PATH_MAX];
+
+    opened[0] = '\0';
+    if (mount != NULL && seeker_below(seeker, MOUNTS, mounts) &&
+        mount_of_device(mounts, partition->major, partition->minor, mount) == 0) {
+        const bool own = are_own(seeker, mounts);
+
+        if ((own ? snprintf(point, PATH_MAX, "%s", mount->point) >= PATH_MAX
+                 : !seeker_below(seeker, mount->point, point)) ||
+            !path_join(opened, point, name + 1))
+            opened[0] = '\0';
+    }
+    free(mount);
+}
+
+/* The device path of the file of this name on the disk that is named, and the path at which it can be opened. */
 static uint32_t path_on_disk(const struct seeker *seeker, const struct bootkeep_machine_loader *loader,
-                             struct bytes *path)
+                             char opened[PATH_MAX], struct bytes *path)
 {
     const struct seeker named = {seeker->machine, seeker->root, loader->disk};
     struct partition partition = {0};
@@ -141,6 +161,7 @@ static uint32_t path_on_disk(const struct seeker *seeker, const struct bootkeep_
         return status;
     if (!slashed(loader->file, name))
         return seeker_fail(seeker, loader->file, ENAMETOOLONG);
+    open_at(seeker, &partition, name, opened);
     if (!partition_path(&partition, name, path))
         return call_no_memory(seeker->machine);
     return path->len > 0 ? BOOTKEEP_DONE : seeker_refuse(seeker, BOOTKEEP_MACHINE_FAULT_BAD_LOADER_NAME);
@@ -176,24 +197,34 @@ static uint32_t look_at_image(const struct seeker *seeker, const char *opened, b
     return call_ended(seeker->machine, BOOTKEEP_MACHINE_AT_LOADER, BOOTKEEP_REFUSED, BOOTKEEP_MACHINE_LEFT_NOTHING);
 }
 
+/* The same of a file on a disk that is named: it may be yet to be put there, and it isn't looked at if its partition
+ * isn't mounted. */
+static uint32_t look_on_disk(const struct seeker *seeker, const char *opened, bool is_forced)
+{
+    struct stat found;
+    const char *why = "not looked at: its partition isn't mounted";
+
+    if (*opened != '\0' && stat(opened, &found) == 0 && S_ISREG(found.st_mode))
+        return look_at_image(seeker, opened, is_forced);
+    if (*opened != '\0')
+        why = "no file of this name is on the partition";
+    return remark(seeker->machine, seeker->file, why) ? BOOTKEEP_DONE : call_no_memory(seeker->machine);
+}
+
 /* The load option of the loader, whose file is looked at if that is wanted. */
 static uint32_t make_option(struct bootkeep_machine *machine, const struct bootkeep_machine_loader *loader,
                             bool is_looked_at, bool is_forced, struct bytes *option)
 {
     const struct seeker seeker = {machine, loader->root == NULL ? "" : loader->root, loader->file};
+    const bool is_on_disk = loader->disk != NULL;
     struct bootkeep_refusal refusal;
     struct bytes path = {NULL, 0};
     char opened[PATH_MAX];
-    const bool is_on_disk = loader->disk != NULL;
-    uint32_t status = is_on_disk ? path_on_disk(&seeker, loader, &path) : path_of_file(&seeker, opened, &path);
+    uint32_t status = is_on_disk ? path_on_disk(&seeker, loader, opened, &path) : path_of_file(&seeker, opened, &path);
 
     *option = (struct bytes){NULL, 0};
-    if (status == BOOTKEEP_DONE && is_looked_at && !is_on_disk)
-        status = look_at_image(&seeker, opened, is_forced);
-    if (status == BOOTKEEP_DONE && is_looked_at && is_on_disk &&
-        !remark(machine, loader->file,
-                "not looked at: it is on a disk that is named, and `bootvars check` looks there"))
-        status = call_no_memory(machine);
+    if (status == BOOTKEEP_DONE && is_looked_at)
+        status = is_on_disk ? look_on_disk(&seeker, opened, is_forced) : look_at_image(&seeker, opened, is_forced);
     if (status == BOOTKEEP_DONE) {
         ANSWER(status, option,
                bootkeep_option_make(loader->attributes, (const uint8_t *)loader->description,

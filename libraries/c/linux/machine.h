@@ -374,6 +374,8 @@ struct mount {
  * there is none, or another number of errno.
  */
 int leading_mount(const char *mounts, const char *path, struct mount *mount);
+/* The first of them of the whole file system on the device of these numbers: as above. */
+int mount_of_device(const char *mounts, unsigned major, unsigned minor, struct mount *mount);
 
 /* ---- partition.c: partitions ------------------------------------------------------------------------------------- */
 
@@ -396,6 +398,9 @@ struct partition {
     uint8_t signature[PARTITION_ID_LEN];
     uint8_t format;
     uint32_t told_number;
+    /* The numbers of its device, or 0 if the system doesn't tell them. */
+    unsigned major;
+    unsigned minor;
 };
 
 /* The file or the disk is refused for this. */

@@ -107,19 +107,45 @@ static int find_leading(char *text, const char *path, struct mount *mount)
     return is_found ? 0 : ENOENT;
 }
 
-int leading_mount(const char *mounts, const char *path, struct mount *mount)
+/* The text of mounts, with a zero after it: 0, or a number of errno. */
+static int read_text(const char *mounts, struct bytes *text)
 {
-    struct bytes bytes, text, end = {(uint8_t *)"", 1};
+    struct bytes bytes, end = {(uint8_t *)"", 1};
     int error = read_any(mounts, READ_MAX, &bytes);
 
+    *text = (struct bytes){NULL, 0};
     if (error != READ_DONE)
         return error == READ_TOO_MUCH ? EFBIG : error;
-    error = bytes_join(&text, bytes, end) ? 0 : ENOMEM;
+    error = bytes_join(text, bytes, end) ? 0 : ENOMEM;
     bytes_free(&bytes);
+    return error;
+}
+
+int leading_mount(const char *mounts, const char *path, struct mount *mount)
+{
+    struct bytes text;
+    int error = read_text(mounts, &text);
+
     if (error == 0)
         error = find_leading((char *)text.at, path, mount);
     bytes_free(&text);
     return error;
+}
+
+int mount_of_device(const char *mounts, unsigned major, unsigned minor, struct mount *mount)
+{
+    struct bytes text;
+    char *line, *rest = NULL;
+    bool is_found = false;
+    int error = read_text(mounts, &text);
+
+    if (error != 0)
+        return error;
+    for (line = strtok_r((char *)text.at, "\n", &rest); line != NULL && !is_found; line = strtok_r(NULL, "\n", &rest))
+        is_found =
+            read_mount(line, mount) && mount->major == major && mount->minor == minor && strcmp(mount->root, "/") == 0;
+    bytes_free(&text);
+    return is_found ? 0 : ENOENT;
 }
 
 bool is_on_efivarfs(const char *path)

@@ -70,6 +70,16 @@ static int read_number(const char *folder, const char *name, uint64_t *number)
     return error;
 }
 
+/* The numbers of the device of a folder of /sys: false if they aren't told. */
+static bool read_device(const char *folder, unsigned *major, unsigned *minor)
+{
+    struct bytes text;
+    const bool told = read_sys(folder, "dev", &text) == 0 && sscanf((char *)text.at, "%u:%u", major, minor) == 2;
+
+    bytes_free(&text);
+    return told;
+}
+
 /* The value that the file `uevent` of a folder of /sys has for a key, in `value` of this room: false if it has none. */
 static bool read_uevent(const char *folder, const char *key, char *value, size_t room)
 {
@@ -229,6 +239,8 @@ uint32_t partition_of_folder(const struct seeker *seeker, const char *folder, st
 {
     uint32_t status = read_partition(seeker, folder, partition);
 
+    if (status == BOOTKEEP_DONE && !read_device(folder, &partition->major, &partition->minor))
+        partition->major = partition->minor = 0;
     if (status == BOOTKEEP_DONE && !make_blocks(partition))
         return seeker_refuse(seeker, BOOTKEEP_MACHINE_FAULT_NO_PARTITION);
     return status;
@@ -276,14 +288,11 @@ static bool kernel_name(const struct seeker *seeker, const char *whole, char nam
 /* Whether the device of the folder of /sys has this number; any, if only a file stands for the device. */
 static bool has_number(const char *folder, const struct stat *found)
 {
-    struct bytes text;
-    unsigned major, minor;
-    bool has = read_sys(folder, "dev", &text) == 0 && sscanf((char *)text.at, "%u:%u", &major, &minor) == 2;
+    unsigned told_major, told_minor;
 
-    if (has && S_ISBLK(found->st_mode))
-        has = major(found->st_rdev) == major && minor(found->st_rdev) == minor;
-    bytes_free(&text);
-    return has;
+    if (!read_device(folder, &told_major, &told_minor))
+        return false;
+    return !S_ISBLK(found->st_mode) || (major(found->st_rdev) == told_major && minor(found->st_rdev) == told_minor);
 }
 
 /* The folder of /sys of the device at the path without links, of which that was found, or NULL. It is freed by the

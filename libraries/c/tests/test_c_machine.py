@@ -440,7 +440,8 @@ class MachineTest(OfMachines):
 
     def test_the_option_of_a_loader_on_a_disk_need_not_be_mounted(self) -> None:
         _file, *rest = self.loader("")
-        mounted = self.call("loader", *self.loader("/boot/efi/EFI/rescue/grubx64.efi"))
+        loader = "/boot/efi/EFI/rescue/grubx64.efi"
+        mounted = self.call("loader", *self.loader(loader))
         wanted = mounted.output.splitlines()[0]
         (self.folder / "root/proc/self/mountinfo").unlink()
         for disk, part in (("/dev/nvme0n1", "1"), ("/dev/nvme0n1", "0"), ("/dev/nvme0n1p1", "0")):
@@ -449,7 +450,22 @@ class MachineTest(OfMachines):
                 self.assertEqual(told.output.splitlines()[0], wanted, (disk, part, name))
         added = self.call("add_loader", "\\no\\such.efi", *rest, "/dev/nvme0n1", "1")
         self.assertEqual((added.status, added.entry), (0, "00003"), added.output)
-        self.assertIn("remark \\no\\such.efi: not looked at", added.output)
+        self.assertIn("remark \\no\\such.efi: not looked at: its partition", added.output)
+
+    def test_a_loader_on_a_disk_is_looked_at_if_it_is_mounted(self) -> None:
+        _file, *rest = self.loader("")
+        disk = [*rest, "/dev/nvme0n1", "1"]
+        name = "\\EFI\\rescue\\grubx64.efi"
+        missing = self.call("--flags", "1", "add_loader", "\\no\\such.efi", *disk)
+        self.assertIn("remark \\no\\such.efi: no file of this name", missing.output)
+        good = self.call("--flags", "1", "add_loader", name, *disk)
+        self.assertEqual(good.status, 0, good.output)
+        self.assertNotIn("remark", good.output)
+        (self.folder / "root/boot/efi/EFI/rescue/grubx64.efi").write_bytes(b"MZ")
+        told = self.call("add_loader", name, *disk)
+        self.assertEqual((told.status, told.kind), (REFUSED, 0x8015), told.output)
+        self.assertEqual(self.call("--flags", "10", "add_loader", name, *disk).status, 0)
+        self.assertIsNotNone(self.stored("Boot0003"))
 
     def test_a_disk_or_a_partition_that_is_not_there_is_refused(self) -> None:
         _file, *rest = self.loader("")

@@ -147,7 +147,7 @@ pub struct Loader<'a> {
     /// A folder that stands for the root of the system: the file, and what is read of `/proc`, `/sys` and `/dev`, is below
     /// it.
     pub root: Option<&'a Path>,
-    /// The disk that it is on, or a partition, as `/dev/nvme0n1`, which need not be mounted: the file isn't looked at then.
+    /// The disk that it is on, or a partition, as `/dev/nvme0n1`, which need not be mounted.
     pub disk: Option<&'a Path>,
     /// The number of the partition of the disk, in the place of the first.
     pub part: Option<NonZeroU32>,
