@@ -66,7 +66,13 @@ COVERS = (
         (
             *("uefi_path", "uefi_text", "uefi_names", "partitions", "efi_images", "uefi_option"),
             *("uefi_vars", "var_stores", "entry_checks", "boot_requests", "boot_notes"),
-            *("machine_names", "boot_journal", "change_records", "journaled_requests", "boot_moves"),
+            *(
+                "machine_names",
+                "boot_journal",
+                "change_records",
+                "journaled_requests",
+                "boot_moves",
+            ),
             *("boot_edits", "boot_profiles", "boot_trials", "efibootmgr_words", "bootkeep_c"),
         ),
     ),
