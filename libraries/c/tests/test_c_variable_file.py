@@ -1,6 +1,6 @@
 """Tests of libbootkeep-linux over emulators' variable files, as test_c_machine.py has them over folders.
 
-Variable files are made and read by hand, in variable_files.py."""
+Variable files are made and read by hand, in variable_store.py."""
 
 from __future__ import annotations
 
@@ -38,7 +38,7 @@ from test_c_machine import (
     pending_journal,
     set_file,
 )
-from variable_files import (
+from variable_store import (
     ADDED,
     DELETED,
     OTHER_VENDOR,
