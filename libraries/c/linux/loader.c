@@ -219,7 +219,7 @@ static uint32_t make_option(struct bootkeep_machine *machine, const struct bootk
     const bool is_on_disk = loader->disk != NULL;
     struct bootkeep_refusal refusal;
     struct bytes path = {NULL, 0};
-    char opened[PATH_MAX];
+    char opened[PATH_MAX] = "";
     uint32_t status = is_on_disk ? path_on_disk(&seeker, loader, opened, &path) : path_of_file(&seeker, opened, &path);
 
     *option = (struct bytes){NULL, 0};
