@@ -16,6 +16,13 @@ Bytes = Union[bytes, bytearray, memoryview]
 ROOM = 512
 
 
+class NoVariable(KeyError):
+    """What a set without a variable of a name raises: its argument is the name, and its text says what is wrong with it."""
+
+    def __str__(self) -> str:
+        return f"there is no variable {self.args[0]}"
+
+
 def bytes_in(data: Union[Bytes, SupportsBytes]) -> Tuple[bytes, int]:
     """The two arguments of C for these bytes, or for those of a value of this package."""
     if isinstance(data, str):
@@ -59,7 +66,7 @@ def unless_absent(
     def found(*out: object) -> int:
         status = call(*out)
         if status == ABSENT:
-            raise KeyError(name)
+            raise NoVariable(name)
         return status
 
     return bytes_of(found, room, refusal)

@@ -12,6 +12,7 @@ from typing import Dict, Iterator, Mapping, Optional, Sequence, Tuple, Union
 
 from ._buffers import (
     Bytes,
+    NoVariable,
     bytes_in,
     bytes_of,
     unless_absent,
@@ -307,7 +308,10 @@ class BootVariables(Value, Mapping[str, bytes]):
         self._set(_data=data, _by_name=vars_list(data))
 
     def __getitem__(self, name: str) -> bytes:
-        return self._by_name[name]
+        try:
+            return self._by_name[name]
+        except KeyError:
+            raise NoVariable(name) from None
 
     def __iter__(self) -> Iterator[str]:
         return iter(self._by_name)

@@ -147,8 +147,11 @@ class Values(unittest.TestCase):
         with_one = bootkeep.vars_put(SET, "Nothing", b"1")
         self.assertEqual(bootkeep.vars_list(with_one)["Nothing"], b"1")
         self.assertEqual(bootkeep.vars_remove(with_one, "Nothing"), SET)
-        self.assertRaises(KeyError, bootkeep.vars_get, SET, "Nothing")
-        self.assertRaises(KeyError, bootkeep.vars_remove, SET, "Nothing")
+        for call in (bootkeep.vars_get, bootkeep.vars_remove):
+            with self.assertRaises(KeyError) as raised:
+                call(SET, "Nothing")
+            self.assertEqual(raised.exception.args, ("Nothing",))
+            self.assertEqual(str(raised.exception), "there is no variable Nothing")
 
     def test_the_first_fault_of_an_image_is_told(self) -> None:
         found = bootkeep.image_check(b"")

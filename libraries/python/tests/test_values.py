@@ -319,7 +319,8 @@ class Sets(OfCases):
         variables = BootVariables.from_bytes(SET)
         self.assertEqual(dict(variables), bootkeep.vars_list(SET))
         self.assertIn("BootOrder", variables)
-        self.assertRaises(KeyError, lambda: variables["Nothing"])
+        with self.assertRaisesRegex(KeyError, "^there is no variable Nothing$"):
+            self.assertEqual(variables["Nothing"], b"")
         with_one = variables.with_variable("Nothing", b"1")
         self.assertEqual(with_one["Nothing"], b"1")
         self.assertEqual(with_one.without("Nothing"), variables)
