@@ -26,6 +26,9 @@ PLAIN_GUID = bytes.fromhex("1636cfdd75326441" "98b6fe85707ffe7d")
 # How many bytes a value of a set has at most, and a variable's attributes if nothing says others.
 DATA_MAX, NEW = 1 << 20, b"\7\0\0\0"
 
+# Files without variables that Debian's package ovmf has.
+INSTALLED = [Path("/usr/share/OVMF/OVMF_VARS.fd"), Path("/usr/share/OVMF/OVMF_VARS_4M.fd")]
+
 OTHER_GUID = bytes(range(16))
 OTHER_NAMES = ["Lang", "PlatformLang", "BootOptionSupport", "Boot00zz", "K" * 64, "K" * 65, ""]
 
@@ -243,7 +246,11 @@ def headers(size: int, rest: int) -> bytes:
 
 
 def some_file(chance: random.Random, boot: dict[str, bytes]) -> bytes:
-    """A file with records of these boot variables and of others."""
+    """A file with records of these boot variables and of others; or one that is installed, with some of them."""
+    installed = [path for path in INSTALLED if path.is_file()]
+    if installed and chance.randrange(20) == 0:
+        some = {name: NEW + data for name, data in boot.items() if chance.randrange(2)}
+        return with_variables(chance.choice(installed).read_bytes(), some)
     records = b"".join(some_record(chance, boot) for _ in range(chance.choice([0, 1, 3, 8, 20])))
     if chance.randrange(30) == 0:
         value = bytes(chance.choice([DATA_MAX - 4, DATA_MAX - 3, DATA_MAX, DATA_MAX + 1]))
