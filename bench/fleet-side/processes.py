@@ -1,8 +1,10 @@
-"""The processes of `bench/fleet`: each is killed by its number, and none outlives the bench."""
+"""The processes of `bench/fleet`: each is killed by its number, and none outlives the bench. Once a group of processes has
+ended, another one may get its number, so each has a mark in its environment, by which it is known."""
 
 from __future__ import annotations
 
 import os
+import secrets
 import signal
 import subprocess
 import time
@@ -10,6 +12,12 @@ from pathlib import Path
 from typing import Dict, List, NamedTuple
 
 TICK = os.sysconf("SC_CLK_TCK")
+
+MARK = "BENCH_PROCESSES"
+"""The name of the mark, which each process hands on to those that it starts."""
+
+ENDED_WITHIN = 5
+"""For how many seconds it is waited until all that is killed has ended."""
 
 
 class Spent(NamedTuple):
@@ -26,17 +34,25 @@ class Memory(NamedTuple):
     private: int
 
 
+class Started(NamedTuple):
+    """What was started: the number of the process, which its group has too, and the mark of all that are in the group."""
+
+    number: int
+    mark: str
+
+
 class Processes:
     """Processes by their names, each with a group of its own."""
 
     def __init__(self, folder: Path) -> None:
-        self.folder = folder
+        self.folder, self.mark, self.count = folder, f"{MARK}={secrets.token_hex(8)}", 0
         self.running: Dict[str, "subprocess.Popen[bytes]"] = {}
-        self.groups: List[int] = []
-        self.former: Dict[str, List[int]] = {}
+        self.started: Dict[str, List[Started]] = {}
 
     def start(self, name: str, words: List[str]) -> "subprocess.Popen[bytes]":
         """Starts a program. It is killed if the bench is."""
+        self.count += 1
+        mark = f"{self.mark}.{self.count}."
         with open(self.folder / f"{name}.log", "ab") as log:
             made = subprocess.Popen(
                 ["setpriv", "--pdeathsig", "KILL", "--", *words],
@@ -44,10 +60,10 @@ class Processes:
                 stdout=log,
                 stderr=subprocess.STDOUT,
                 start_new_session=True,
+                env={**os.environ, MARK: mark.partition("=")[2]},
             )
         self.running[name] = made
-        self.groups.append(made.pid)
-        self.former.setdefault(name, []).append(made.pid)
+        self.started.setdefault(name, []).append(Started(made.pid, mark))
         return made
 
     def log(self, name: str) -> str:
@@ -60,9 +76,12 @@ class Processes:
 
     def kill_group(self, name: str) -> None:
         """Kills a process with all that it has started, as far as it hasn't ended."""
-        if is_there(self.running[name].pid):
-            os.killpg(self.running[name].pid, signal.SIGKILL)
-        self.running[name].wait()
+        made = self.running[name]
+        if made.poll() is None:
+            os.killpg(made.pid, signal.SIGKILL)
+        else:
+            self._kill(self._there(self.started[name][-1]))
+        made.wait()
 
     def await_quiet(self, name: str, seconds: float) -> bool:
         """Waits for so long until nothing is at work that a process has started, nor what one before it by this name has.
@@ -75,14 +94,14 @@ class Processes:
         return True
 
     def _is_at_work(self, name: str) -> bool:
-        groups = self.former.get(name, [])
-        if not groups:
+        started = self.started.get(name, [])
+        if not started:
             return False
-        self.former[name] = [it for it in groups[:-1] if is_there(it)] + groups[-1:]
-        if len(self.former[name]) > 1:
+        self.started[name] = [it for it in started[:-1] if self._there(it)] + started[-1:]
+        if len(self.started[name]) > 1:
             return True
         has_ended = self.running[name].poll() is not None
-        return is_there(groups[-1]) if has_ended else bool(children(groups[-1]))
+        return bool(self._there(started[-1]) if has_ended else children(started[-1].number))
 
     def spent(self, name: str) -> Spent:
         fields = self._stat(self.running[name].pid)
@@ -106,36 +125,53 @@ class Processes:
 
     def end(self) -> int:
         """Kills all, and gives how many are left after that."""
-        for group in self.groups:
-            try:
-                os.killpg(group, signal.SIGKILL)
-            except ProcessLookupError:
-                pass
+        until = time.monotonic() + ENDED_WITHIN
+        while self.left() and time.monotonic() < until:
+            self._kill(marked(self.mark))
+            time.sleep(0.05)
         for made in self.running.values():
             made.wait()
-        until = time.monotonic() + 5
-        while self.left() and time.monotonic() < until:
-            time.sleep(0.05)
         return self.left()
 
     def left(self) -> int:
-        """How many processes there are in the groups."""
-        groups, count = set(self.groups), 0
-        for folder in Path("/proc").glob("[0-9]*"):
+        """How many processes there are."""
+        return len(marked(self.mark))
+
+    @staticmethod
+    def _there(started: Started) -> List[int]:
+        """What is there of what was started."""
+        return marked(started.mark) if is_there(started.number) else []
+
+    @staticmethod
+    def _kill(processes: List[int]) -> None:
+        for process in processes:
             try:
-                fields = (folder / "stat").read_text().rpartition(")")[2].split()
-            except OSError:
-                continue
-            count += int(fields[2]) in groups and fields[0] != "Z"
-        return count
+                os.kill(process, signal.SIGKILL)
+            except ProcessLookupError:
+                pass
+
+
+def marked(mark: str) -> List[int]:
+    """The processes with a variable in their environment that begins so. One that has ended has none."""
+    found = []
+    for folder in Path("/proc").glob("[0-9]*"):
+        try:
+            variables = (folder / "environ").read_bytes().split(b"\0")
+        except OSError:
+            continue  # It is gone, or somebody else's.
+        if any(it.startswith(mark.encode()) for it in variables):
+            found.append(int(folder.name))
+    return found
 
 
 def is_there(group: int) -> bool:
-    """Whether there is a process in a group."""
+    """Whether there is a process in a group, perhaps another one that got the number."""
     try:
         os.killpg(group, 0)
     except ProcessLookupError:
         return False
+    except PermissionError:
+        pass
     return True
 
 

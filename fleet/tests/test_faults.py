@@ -319,3 +319,34 @@ def test_what_a_killed_process_left_is_waited_for(tmp_path: Path) -> None:
         assert processes.await_quiet("nobody", 10)
     finally:
         assert processes.end() == 0
+
+
+def test_a_number_that_another_program_got_is_left_alone(tmp_path: Path) -> None:
+    """A group of processes has ended, and the system has given its number to somebody else's, or to another one here."""
+    processes = Processes(tmp_path)
+    with subprocess.Popen(["sleep", "60"], start_new_session=True) as other:
+        try:
+            own = processes.start("own", ["sleep", "60"])
+            for number in (other.pid, own.pid):
+                processes.start("parent", ["true"]).wait()
+                (started,) = processes.started["parent"]
+                processes.started["parent"] = [started._replace(number=number)]
+                assert processes.await_quiet("parent", 0)
+                processes.kill_group("parent")
+                processes.start("parent", ["sleep", "60"])
+                assert processes.await_quiet("parent", 10)
+                processes.kill_group("parent")
+                del processes.started["parent"]
+            assert own.poll() is None
+            assert processes.end() == 0 and own.poll() is not None
+            assert other.poll() is None
+        finally:
+            other.kill()
+
+
+def test_all_that_a_process_has_started_is_ended(tmp_path: Path) -> None:
+    """Also what has made a group of its own, and what outlives the process."""
+    processes = Processes(tmp_path)
+    processes.start("parent", ["sh", "-c", "setsid sleep 60 & sleep 60 & exit 0"]).wait()
+    assert processes.left() == 2
+    assert processes.end() == 0
