@@ -31,6 +31,10 @@ MOST_BYTES = 1 << 19
 MOST_UNMET = 16
 """How often in a row a machine may be another one than a message expects: something changes it each time."""
 
+MARK_PAUSE = 5.0
+"""For how many seconds a ledger isn't marked again for another machine that is heard of for the first time. A sender that is
+killed while it marks the ledger leaves one that is taken for an older copy."""
+
 
 class Trouble(Exception):
     """Why nothing more is sent to a machine."""
@@ -48,7 +52,7 @@ def take(ledger: Ledger, name: str, answer: Answer, asked: Message) -> Taken:
     """Takes what a machine answers to a message, without a refusal."""
     machine = ledger.machine(name)
     if machine.journal in (None, FORGOTTEN):
-        ledger.mark()  # Of this no earlier copy knows.
+        ledger.mark(MARK_PAUSE)  # Of this no earlier copy knows.
     try:
         taken = _next_message(ledger, machine, answer, asked)
     except Trouble as trouble:

@@ -7,10 +7,12 @@ from __future__ import annotations
 
 import fcntl
 import glob
+import math
 import os
 import secrets
 import sqlite3
 import tempfile
+import time
 from contextlib import contextmanager
 from pathlib import Path
 from typing import Any, Dict, Iterator, Optional, Type, TypeVar
@@ -111,7 +113,7 @@ class Store:
         if not path.is_file():
             raise LedgerError(f"{path}: there is no ledger; `bootfleet init` makes one")
         self.path, self.path_beside = path, Path(f"{path.resolve()}.{LATEST}")
-        self.is_to_be_marked = False
+        self.marked, self.mark_due = -math.inf, math.inf
         self.db = sqlite3.connect(str(path), isolation_level=None, timeout=60)
         try:
             self.db.execute("PRAGMA journal_mode=WAL")
@@ -158,10 +160,9 @@ class Store:
     def transaction(self) -> Iterator[None]:
         """What is done in it is done as a whole, and on the disk afterwards, or not at all."""
         self.db.execute("BEGIN IMMEDIATE")
-        self.is_to_be_marked = False
         try:
             yield
-            if self.is_to_be_marked:
+            if self.mark_due <= time.monotonic():
                 self._mark()
         except BaseException:
             self.db.execute("ROLLBACK")
@@ -201,11 +202,13 @@ class Store:
         """Whether this isn't the ledger that was marked last, but an older copy that took its place, or a new one."""
         return self.setting(COPIED) is not None or self.setting(LATEST) != self._beside()
 
-    def mark(self) -> None:
-        """Has the ledger marked as the latest one, when the transaction ends."""
-        self.is_to_be_marked = True
+    def mark(self, pause: float = 0) -> None:
+        """Has the ledger marked as the latest one, when the transaction ends, or a later one if it was marked less than so
+        many seconds ago."""
+        self.mark_due = min(self.mark_due, self.marked + pause)
 
     def _mark(self) -> None:
+        self.marked, self.mark_due = time.monotonic(), math.inf
         with open(self.path_beside, "w", encoding="ascii") as out:
             out.write(secrets.token_hex(16))
             out.flush()

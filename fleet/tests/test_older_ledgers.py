@@ -27,7 +27,7 @@ from conftest import (
     update,
 )
 
-from sender import commands
+from sender import commands, machines
 from sender.goals import Goal
 from sender.ledger import Ledger
 from sender.run import Sender
@@ -250,6 +250,11 @@ def test_what_is_beside_a_ledger_says_whether_it_is_the_one(ledger: Ledger) -> N
     assert begin(ledger) and not begin(ledger)
 
 
+def test_senders_over_one_ledger_ask_nothing(ledger: Ledger) -> None:
+    other = Ledger(ledger.path)
+    assert [begin(it) for it in (ledger, other, ledger, other)] == [False] * 4
+
+
 def test_a_ledger_of_an_earlier_version_is_the_one(ledger: Ledger) -> None:
     """It isn't marked. A copy of it that comes back is known."""
     by_file(ledger, ledger.path.with_name("copy"))
@@ -301,9 +306,14 @@ def test_a_start_that_is_cut_off_changes_nothing(
 
 @pytest.mark.parametrize("is_in_trouble", [False, True])
 def test_a_ledger_is_marked_when_a_machine_is_heard_of_for_the_first_time(
-    sender: Sender, machine: Folder, tmp_path: Path, is_in_trouble: bool
+    sender: Sender,
+    machine: Folder,
+    tmp_path: Path,
+    monkeypatch: pytest.MonkeyPatch,
+    is_in_trouble: bool,
 ) -> None:
     """The copy is made while the sender is at work, which isn't started anew before the copy comes back."""
+    monkeypatch.setattr(machines, "MARK_PAUSE", 0)
     if is_in_trouble:
         update(machine, bootkeep.frame_make(0, Request.FIRST, entry=0))
     add(sender.ledger, SEND)
@@ -325,6 +335,24 @@ def test_a_ledger_is_marked_when_a_machine_is_heard_of_for_the_first_time(
     set_up_anew(machine)
     restored = put_back(sender, copy)
     assert MAY_HAVE_HAD in doubted(restored, 1)
+
+
+def test_a_ledger_is_marked_now_and_then(ledger: Ledger, monkeypatch: pytest.MonkeyPatch) -> None:
+    now, marks = [100.0], []
+    monkeypatch.setattr(time, "monotonic", lambda: now[0])
+    assert not begin(ledger)
+    for seconds in (0, 1, machines.MARK_PAUSE - 1, 1, 1, machines.MARK_PAUSE):
+        now[0] += seconds
+        with ledger.transaction():
+            ledger.mark(machines.MARK_PAUSE)
+        marks.append(ledger.setting("latest"))
+    assert marks[0] == marks[1] != marks[2] == marks[3] == marks[4] != marks[5]
+    with ledger.transaction():
+        ledger.mark(machines.MARK_PAUSE)
+    now[0] += machines.MARK_PAUSE
+    with ledger.transaction():
+        ledger.add_machine("m3")
+    assert ledger.setting("latest") != marks[5] and not ledger.is_other()
 
 
 def go_on(sender: Sender) -> None:
