@@ -116,7 +116,7 @@ static int open_regular(const char *path, int *file)
 
 int read_regular(const char *path, size_t limit, struct bytes *bytes)
 {
-    int file, what = open_regular(path, &file);
+    int file = -1, what = open_regular(path, &file);
 
     *bytes = (struct bytes){NULL, 0};
     return what == READ_DONE ? read_open(file, limit, bytes) : what;
@@ -124,7 +124,7 @@ int read_regular(const char *path, size_t limit, struct bytes *bytes)
 
 int read_front(const char *path, size_t most, struct bytes *bytes)
 {
-    int file, what = open_regular(path, &file);
+    int file = -1, what = open_regular(path, &file);
 
     *bytes = (struct bytes){NULL, 0};
     if (what != READ_DONE)

@@ -103,7 +103,7 @@ static uint32_t name_by_system(struct bootkeep_machine *machine, struct identity
     char *path;
     uint32_t status = name_by_path(machine, &path);
 
-    if (status != BOOTKEEP_DONE)
+    if (path == NULL)
         return status;
     if (read_text(MACHINE_ID, IDENTITY_MAX, id) == ENOMEM) {
         free(path);

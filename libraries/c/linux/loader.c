@@ -96,7 +96,7 @@ static uint32_t path_of_whole(const struct seeker *seeker, const char *whole, co
 static uint32_t path_of_file(const struct seeker *seeker, char opened[PATH_MAX], struct bytes *path)
 {
     struct mount *mount = malloc(sizeof *mount);
-    struct stat found;
+    struct stat found = {0};
     char *whole = NULL;
     uint32_t status = BOOTKEEP_DONE;
 

@@ -57,14 +57,16 @@ static int read_sys(const char *folder, const char *name, struct bytes *text)
 static int read_number(const char *folder, const char *name, uint64_t *number)
 {
     struct bytes text;
-    char *end;
+    char *end = "";
+    bool is_number;
     int error = read_sys(folder, name, &text);
 
     if (error != 0)
         return error;
     errno = 0;
-    *number = isdigit(text.at[0]) ? strtoull((char *)text.at, &end, 10) : 0;
-    if (!isdigit(text.at[0]) || errno != 0 || (*end != '\0' && strcmp(end, "\n") != 0))
+    is_number = isdigit(text.at[0]);
+    *number = is_number ? strtoull((char *)text.at, &end, 10) : 0;
+    if (!is_number || errno != 0 || (*end != '\0' && strcmp(end, "\n") != 0))
         error = EINVAL;
     bytes_free(&text);
     return error;

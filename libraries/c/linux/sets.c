@@ -62,7 +62,7 @@ uint32_t set_items(struct bytes set, struct item **items, size_t *count, struct 
 
     *items = NULL;
     if (status == BOOTKEEP_DONE && *count > 0) {
-        *items = calloc(*count, sizeof **items);
+        *items = places == NULL ? NULL : calloc(*count, sizeof **items);
         if (*items == NULL)
             status = BOOTKEEP_NO_MEMORY;
     }
