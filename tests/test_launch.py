@@ -226,6 +226,17 @@ class Unproved(Clone):
             (tree / "crates" / "low" / "src" / "lib.rt").read_text(), "pub fn two() {}\n"
         )
 
+    def test_two_static_libraries_by_rattle_at_once(self) -> None:
+        script = [sys.executable, str(self.root / "tools" / "build.py"), "--rattle", "calls_c"]
+        calls = [
+            subprocess.Popen(script, env=self.environment("slow"), stdout=subprocess.PIPE)
+            for _ in range(3)
+        ]
+        made = [it.communicate(timeout=60)[0] for it in calls]
+        self.assertEqual([it.returncode for it in calls], [0, 0, 0])
+        self.assertEqual(len(set(made)), 1)
+        self.assertEqual(self.proofs(), ["lib calls_c", "lib calls_c"])
+
     def build(self, *words: str, modes: str = "") -> "subprocess.CompletedProcess[str]":
         """Proves and builds a crate, as the script of the library for C does."""
         return subprocess.run(

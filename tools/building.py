@@ -72,20 +72,31 @@ def build(name: str, root: Path = ROOT) -> Path:
 
 def build_by_rattle(name: str, root: Path = ROOT) -> Path:
     """A static library that is proved as `build` does it, and compiled by the toolchain's own compiler: in a tree of its
-    own, whose crates.txt says so, with what is kept of the proof.
+    own, whose crates.txt says so, with what is kept of the proof. One caller at a time makes it.
 
     Raises NotBuilt if there is none."""
     tree = root / "out" / "rattle"
-    if not Product("proved", f"lib{name}.a", tree).is_of(sources_sum(name, root)):
+    product = Product("proved", f"lib{name}.a", tree)
+    if not product.is_of(sources_sum(name, root)):
         build(name, root)
-        try:
-            _plant_for_rattle(name, root, tree)
-        except OSError as error:
-            raise NotBuilt(f"{error.filename} can't be copied: {error.strerror}") from error
-    return build(name, tree)
+        with _turn(name, root):
+            if not product.is_of(sources_sum(name, root)):
+                _plant_for_rattle(name, root, tree)
+                build(name, tree)
+    return product.path
 
 
 def _plant_for_rattle(name: str, root: Path, tree: Path) -> None:
+    """Makes the tree in which the library is compiled by the toolchain's own compiler.
+
+    Raises NotBuilt if it can't be made."""
+    try:
+        _copy_for_rattle(name, root, tree)
+    except OSError as error:
+        raise NotBuilt(f"{error.filename} can't be copied: {error.strerror}") from error
+
+
+def _copy_for_rattle(name: str, root: Path, tree: Path) -> None:
     crates = read_crates(root)
     below = crates_below(name, crates)
     shutil.rmtree(tree, ignore_errors=True)
