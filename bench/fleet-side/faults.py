@@ -565,8 +565,11 @@ class Faults(Fleet):
             self.end_agent(name)
             model = self.hands.judge(name, machine)
             self.count_twice(name, machine)
-            if not model.order or model.entries.get(model.order[0]) != last:
-                missing.append(f"{name}: the last entry isn't first")
+            is_first = bool(model.order) and model.entries.get(model.order[0]) == last
+            state = states.get((name, self.jobs[-1].number))
+            # A person may have given that up too.
+            if not is_first and state != "cancelled":
+                missing.append(f"{name}: the last entry isn't first, and the goal is {state}")
         for job in self.jobs:
             for name in job.names:
                 is_told = job.number and states.get((name, job.number)) == "reached"
