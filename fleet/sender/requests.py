@@ -16,7 +16,7 @@ MOST_FRAMES = 64
 """How many requests a machine keeps the outcomes of, and so how many may be under way at once."""
 
 FORGOTTEN = "unknown"
-"""What stands for the journal of a machine that a ledger doesn't know, where another ledger was before: the machine may have
+"""What stands for the journal of a machine that a ledger doesn't know, if another ledger was before: the machine may have
 had one, and have lost it."""
 
 

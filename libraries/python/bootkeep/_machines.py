@@ -193,7 +193,7 @@ class Machine(Owned):
         """``variables`` is the folder in which Linux shows the variables, or an emulator's variable file, whose machine has
         to be off, and ``state`` the folder of the journal and the records: if they are left out,
         ``/sys/firmware/efi/efivars`` and ``/var/lib/bootkeep``. ``name`` is what the machine is called, and ``start`` the
-        identity of its start, where what the system says of these isn't wanted; of a variable file :meth:`update` and
+        identity of its start, if what the system says of these isn't wanted; of a variable file :meth:`update` and
         :meth:`settle` need it, a text that is another one after each start. With ``adopt`` another machine's journal is
         taken over, if nothing is left to do in it; without ``keeps_records`` no change can be undone. Nothing is looked at
         as yet. ``ImportError`` is of a system without ``libbootkeep-linux``.
