@@ -1,7 +1,7 @@
 //! The words of the command `bootvars`: its commands and their arguments, with their help, for `clap`.
 //!
 //! [`program`] makes them of tables, one of them for each kind of command. What the words ask for is found in the library
-//! `var_commands`.
+//! `bootvars_actions`.
 #![tactic(auto)]
 
 mod arg_rows;

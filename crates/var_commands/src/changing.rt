@@ -1,10 +1,10 @@
 //! The commands that change boot entries.
 
-use crate::action::{AddWords, ChangeWords, EntryChange, Form};
 use crate::making::{entries_of, entry_of, option_of_words, seconds_of};
 use crate::trials::Trials;
 use boot_edits::{Addition, Edit, NewOrder};
 use boot_trials::TrialTarget;
+use bootvars_actions::{AddWords, ChangeWords, EntryChange, Form};
 use machine_changes::{ChangeOptions, StateUse, change_machine, kind_of_place};
 use messages::Failure;
 use place_edits::{EditForm, WantedEdit};

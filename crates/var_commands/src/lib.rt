@@ -4,13 +4,11 @@
 //!
 //! [`run`] does what the words of a command line ask for, and returns the status to end with. Where variables are is a
 //! place, which the library `var_places` reads and changes; the messages and the statuses of what goes wrong are in the
-//! library `messages`. What is printed of variables and requests is in the library `boot_texts`, and the words of the command
-//! line in `bootvars_words`; here is what they ask for, and what is done for each.
+//! library `messages`. What is printed of variables and requests is in the library `boot_texts`, and what the words of the
+//! command line ask for in `bootvars_actions`; here is what is done for each.
 #![tactic(auto)]
 
-mod action;
 mod changing;
-mod command_line;
 mod making;
 mod profiles;
 mod program;

@@ -1,12 +1,12 @@
 //! The commands `option`, `frame` and `explain`, which make load options and requests, and show requests.
 
-use crate::action::{
-    AttributeWords, Form, LoadOptionWords, LoaderWords, OptionalWords, PathWords, RequestWords,
-};
 use boot_requests::InputFormat;
 use boot_texts::{explain_json, explain_report};
+use bootvars_actions::{
+    AttributeWords, Form, LoadOptionWords, LoaderWords, OptionalWords, PathWords, RequestWords,
+};
 use command_words::{
-    DigitsFault, FrameWords, FrameWordsFault, OptionPaths, OptionWords, OptionWordsFault,
+    DigitsFault, Flags, FrameWords, FrameWordsFault, OptionPaths, OptionWords, OptionWordsFault,
     attribute_bits, attributes_of_text, entry_of_digits, frame_bytes, frame_line, number_of_digits,
     option_bytes, optional_text, seconds_of_digits, single_backslashes,
 };
@@ -238,7 +238,17 @@ fn attributes(alloc: Global, words: AttributeWords<'_>) -> Result<u32, Failure> 
         AttributeWords::Number(text) => {
             attributes_of_text(text).map_err(|fault| from_digits(alloc, text, fault))
         }
-        AttributeWords::Flags(flags) => Ok(attribute_bits(flags)),
+        AttributeWords::Flags {
+            inactive,
+            hidden,
+            app,
+            reconnect,
+        } => Ok(attribute_bits(Flags {
+            inactive,
+            hidden,
+            app,
+            reconnect,
+        })),
     }
 }
 

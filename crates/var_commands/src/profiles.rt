@@ -1,6 +1,6 @@
 //! The command `apply`, which makes a place what a file says.
 
-use crate::action::ApplyWords;
+use bootvars_actions::ApplyWords;
 use machine_changes::{ChangeOptions, StateUse};
 use messages::Failure;
 use wanted_changes::ProfileWords;

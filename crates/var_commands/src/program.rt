@@ -4,9 +4,7 @@ ghost use Rattle.std.specs.Prelude.{◌≡◌, MatchResult};
 ghost use Rattle.var_commands.specs.Ending.{ending_status};
 ghost use Rattle.messages.specs.Failure.{status_of};
 
-use crate::action::{Action, Form, KeptWords};
 use crate::changing::change_entries;
-use crate::command_line::{action_of, read_words};
 use crate::making::{entry_of, explain, make_frame, make_option};
 use crate::profiles::{Profiles, apply_words};
 use crate::trials::{KeptTrial, Trials, run_trial, told_machine};
@@ -17,10 +15,11 @@ use crate::writing::write_place;
 use boot_texts::{changes_text, timeout_json, timeout_report, vars_json, vars_report};
 use boot_trials::Outcome;
 use boot_updates::Ended;
+use bootvars_actions::{Action, Form, KeptWords, action_of, read_words};
 use clap::error::ErrorKind;
 use messages::{Failure, Reason, SHOWN_MAX, Shortened, print};
 use place_checks::{CheckWords, Verdict, check_place};
-use place_edits::{Takeable, get_entry};
+use place_edits::{Takeable, UndoWords, get_entry};
 use std::alloc::{AllocError, Global};
 use std::rt::{Clock, Env, Files};
 use std::{env, io};
@@ -231,7 +230,14 @@ where
         } => done(make_set(rt, place, out, boot_only)),
         Action::Show { place, form, kept } => done(show(rt, others, place, form, kept)),
         Action::ShowTimeout { place, form } => done(show_timeout(rt, place, form)),
-        Action::Check { words, kept } => check(rt, others, &words, kept),
+        Action::Check { words, kept } => {
+            let words = CheckWords {
+                place: words.place,
+                root: words.root,
+                json: words.json,
+            };
+            check(rt, others, &words, kept)
+        }
         Action::Diff { from, to, form } => diff(rt, from, to, form),
         Action::Get { place, entry, out } => {
             done(get_entry(rt, place, entry_of(rt.alloc(), entry)?, out))
@@ -240,7 +246,20 @@ where
         Action::Apply(apply) => apply_words(rt, others, &apply, words).map(ending_of_change),
         Action::ShowProfile { place } => done(others.show(rt, place)),
         Action::Trial(trial) => run_trial(rt, others, &trial, words).map(ending_of_trial),
-        Action::Undo(words) => undo_change(rt, &words).map(ending_of),
+        Action::Undo {
+            machine,
+            dry_run,
+            form,
+        } => undo_change(
+            rt,
+            &UndoWords {
+                machine,
+                force: machine.force,
+                dry_run,
+                json: matches!(form, Form::Json),
+            },
+        )
+        .map(ending_of),
         Action::ListChanges { machine, form } => {
             done(list_changes(rt, &machine, matches!(form, Form::Json)))
         }

@@ -1,10 +1,10 @@
 //! The commands of starts on trial, and what others tell of one.
 
-use crate::action::{Form, KeptWords, TrialJob, TrialWords};
 use crate::making::entry_of;
 use boot_history::DEFAULT_STATE;
 use boot_texts::{TellsTrial, TrialView};
 use boot_trials::{Outcome, TrialTarget};
+use bootvars_actions::{Form, KeptWords, TrialJob, TrialWords};
 use machine_changes::{ChangeOptions, StateUse};
 use messages::Failure;
 use std::rt::Files;

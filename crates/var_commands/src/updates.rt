@@ -8,6 +8,7 @@ use boot_requests::InputFormat;
 use boot_updates::{
     Answered, Ended, NotMade, Printing, ReplyForm, Script, WantedRequests, ending, read_events,
 };
+use bootvars_actions::{Form, Job};
 use machine_changes::{
     ChangeOptions, PlaceKind, StateUse, ToldAnswer, boot_id, change_machine, settle_machine,
 };
@@ -32,28 +33,6 @@ pub(crate) struct UpdateWords<'a> {
     pub(crate) job: Job<'a>,
     /// The words of the command, by which a change is told later.
     pub(crate) command: &'a [String],
-}
-
-/// What an update is to do, after what is left of earlier ones.
-#[derive(Clone, Copy, Debug)]
-pub(crate) enum Job<'a> {
-    /// To run the events of a script, or of a stream.
-    Run {
-        /// The path of the script.
-        script: &'a str,
-        /// Whether it is a stream.
-        is_stream: bool,
-        /// How the replies are printed.
-        form: ReplyForm,
-        /// Whether nothing is changed, and what would be is printed.
-        dry_run: bool,
-    },
-    /// To tell the next number.
-    Next,
-    /// To tell, as JSON, the next number and what there is.
-    Look,
-    /// Nothing else.
-    Settle,
 }
 
 /// Makes or takes back what earlier updates of a place have left to do, and then does its job: runs a script over the
@@ -81,7 +60,7 @@ pub(crate) fn update<
         Ok(Some(answered)) => Ok(ending(&answered.give(rt)?)),
         Ok(None) => Ok(Ended::AllDone),
         Err(not_made) => {
-            if words.job.is_told_as_json() {
+            if is_told_as_json(&words.job) {
                 print_refusal(rt, &words.machine, &not_made);
             }
             Err(not_made.failure)
@@ -89,14 +68,21 @@ pub(crate) fn update<
     }
 }
 
-impl Job<'_> {
-    /// Whether what comes of it is printed as JSON.
-    fn is_told_as_json(&self) -> bool {
-        match self {
-            Job::Run { form, .. } => *form != ReplyForm::Lines,
-            Job::Look => true,
-            Job::Next | Job::Settle => false,
-        }
+/// Whether what comes of the job is printed as JSON.
+fn is_told_as_json(job: &Job<'_>) -> bool {
+    match job {
+        Job::Run { form, look, .. } => *look || matches!(form, Form::Json),
+        Job::Look => true,
+        Job::Next | Job::Settle => false,
+    }
+}
+
+/// How the replies are printed that are to be shown so, perhaps with what there is afterwards.
+fn reply_form(form: Form, look: bool) -> ReplyForm {
+    match form {
+        _ if look => ReplyForm::Look,
+        Form::Json => ReplyForm::Json,
+        Form::Text => ReplyForm::Lines,
     }
 }
 
@@ -111,8 +97,10 @@ fn do_job<R: Files<File: OutputFile> + Clock + Input + Print + Eprint + AllocGlo
             script,
             is_stream,
             form,
+            look,
             dry_run,
         } => {
+            let form = reply_form(form, look);
             let format = if is_stream {
                 InputFormat::Stream
             } else {

@@ -1,6 +1,6 @@
 //! The command `write`, which makes the boot variables of a place those of a set.
 
-use crate::action::{Form, SetWords};
+use bootvars_actions::{Form, SetWords};
 use machine_changes::{ChangeOptions, PlaceKind, StateUse, change_machine, kind_of_place};
 use messages::{Failure, Reason};
 use place_edits::{Takeable, WantedSet};

@@ -1,10 +1,6 @@
 //! What the words of the command line ask for.
 
-use crate::updates::Job;
 use boot_edits::Position;
-use command_words::Flags;
-use place_checks::CheckWords;
-use place_edits::UndoWords;
 use wanted_changes::{MachineWords, ProfileWords};
 
 /// What the words of the command line ask for.
@@ -38,7 +34,7 @@ pub enum Action<'a> {
     /// To tell which boot entries of a place can be started.
     Check {
         /// What is checked.
-        words: CheckWords<'a>,
+        words: CheckedWords<'a>,
         /// What keeps its start on trial.
         kept: KeptWords<'a>,
     },
@@ -72,7 +68,14 @@ pub enum Action<'a> {
     /// To begin a start on trial, to make what follows from one, or to end it.
     Trial(TrialWords<'a>),
     /// To bring back what was there before the last change of a machine.
-    Undo(UndoWords<'a>),
+    Undo {
+        /// The machine. It may be forced, although something else has changed since.
+        machine: MachineWords<'a>,
+        /// Whether nothing is changed, and what would be is shown.
+        dry_run: bool,
+        /// How the changes are shown.
+        form: Form,
+    },
     /// To list the changes of a machine that can be undone.
     ListChanges {
         /// The machine.
@@ -119,12 +122,36 @@ pub enum Action<'a> {
 }
 
 /// How something is shown.
-#[derive(Clone, Copy)]
+#[derive(Clone, Copy, Debug)]
 pub enum Form {
     /// As text for a person.
     Text,
     /// As JSON for a program.
     Json,
+}
+
+/// What an update is to do, after what is left of earlier ones.
+#[derive(Clone, Copy, Debug)]
+pub enum Job<'a> {
+    /// To run the events of a script, or of a stream.
+    Run {
+        /// The path of the script.
+        script: &'a str,
+        /// Whether it is a stream.
+        is_stream: bool,
+        /// How the replies are printed.
+        form: Form,
+        /// Whether what there is afterwards is printed with the replies, as JSON.
+        look: bool,
+        /// Whether nothing is changed, and what would be is printed.
+        dry_run: bool,
+    },
+    /// To tell the next number.
+    Next,
+    /// To tell, as JSON, the next number and what there is.
+    Look,
+    /// Nothing else.
+    Settle,
 }
 
 /// The words that say what keeps a machine's start on trial, for a command that only tells of it.
@@ -134,6 +161,17 @@ pub struct KeptWords<'a> {
     pub state: Option<&'a str>,
     /// The identity of the machine's start, if one is given.
     pub boot_id: Option<&'a str>,
+}
+
+/// The words of `check`.
+#[derive(Clone, Copy)]
+pub struct CheckedWords<'a> {
+    /// The place.
+    pub place: &'a str,
+    /// The path of the folder that stands for the root of the system, or nothing.
+    pub root: &'a str,
+    /// Whether JSON is printed.
+    pub json: bool,
 }
 
 /// The words of `write`.
@@ -298,7 +336,16 @@ pub enum AttributeWords<'a> {
     /// All of them, as one number.
     Number(&'a str),
     /// Each by a flag.
-    Flags(Flags),
+    Flags {
+        /// The boot manager doesn't try the option by itself.
+        inactive: bool,
+        /// A menu leaves the option out.
+        hidden: bool,
+        /// The option is an application that the user starts.
+        app: bool,
+        /// All drivers are connected again after the option's driver is loaded.
+        reconnect: bool,
+    },
 }
 
 /// What is said of a load option's optional data.

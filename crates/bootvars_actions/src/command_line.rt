@@ -1,19 +1,14 @@
 //! The words of the command line, and what they ask for.
 
 use crate::action::{
-    Action, AddWords, ApplyWords, AttributeWords, ChangeWords, EntryChange, Form, KeptWords,
-    LoadOptionWords, LoaderWords, OptionalWords, PathWords, RequestWords, SetWords, StartWords,
-    TrialJob, TrialWords,
+    Action, AddWords, ApplyWords, AttributeWords, ChangeWords, CheckedWords, EntryChange, Form,
+    Job, KeptWords, LoadOptionWords, LoaderWords, OptionalWords, PathWords, RequestWords, SetWords,
+    StartWords, TrialJob, TrialWords,
 };
-use crate::updates::Job;
 use boot_edits::Position;
 use boot_history::DEFAULT_STATE;
-use boot_updates::ReplyForm;
 use bootvars_words::program;
 use clap::{ArgMatches, Error};
-use command_words::Flags;
-use place_checks::CheckWords;
-use place_edits::UndoWords;
 use std::alloc::Global;
 use uefi_vars::EntryFamily;
 use wanted_changes::{MachineWords, ProfileWords};
@@ -24,12 +19,12 @@ use wanted_changes::{MachineWords, ProfileWords};
 ///
 /// What `clap` answers in place of matches: the help, the version or what is wrong with the words, or that memory was
 /// refused.
-pub(crate) fn read_words<'a>(alloc: Global, words: &'a [String]) -> Result<ArgMatches<'a>, Error> {
+pub fn read_words<'a>(alloc: Global, words: &'a [String]) -> Result<ArgMatches<'a>, Error> {
     program(alloc)?.try_get_matches_from(words)
 }
 
 /// What the matches ask for, or nothing if they have no command's words.
-pub(crate) fn action_of<'a>(matches: &'a ArgMatches<'_>) -> Option<Action<'a>> {
+pub fn action_of<'a>(matches: &'a ArgMatches<'_>) -> Option<Action<'a>> {
     let (name, matches) = matches.subcommand()?;
     match name {
         "read" => read_of(matches),
@@ -69,7 +64,7 @@ fn show_of<'a>(matches: &'a ArgMatches<'_>) -> Option<Action<'a>> {
 
 fn check_of<'a>(matches: &'a ArgMatches<'_>) -> Option<Action<'a>> {
     Some(Action::Check {
-        words: CheckWords {
+        words: CheckedWords {
             place: matches.get_str("PLACE")?,
             root: matches.get_str("root").unwrap_or(""),
             json: matches.get_flag("json"),
@@ -159,12 +154,11 @@ fn undo_of<'a>(matches: &'a ArgMatches<'_>) -> Option<Action<'a>> {
     if matches.get_flag("list") {
         return Some(Action::ListChanges { machine, form });
     }
-    Some(Action::Undo(UndoWords {
+    Some(Action::Undo {
         machine,
-        force: machine.force,
         dry_run: matches.get_flag("dry-run"),
-        json: matches!(form, Form::Json),
-    }))
+        form,
+    })
 }
 
 fn apply_of<'a>(matches: &'a ArgMatches<'_>) -> Option<Action<'a>> {
@@ -260,21 +254,16 @@ fn job_of<'a>(matches: &'a ArgMatches<'_>) -> Option<Job<'a>> {
 
 /// The run of a script, or a look without one.
 fn run_of<'a>(matches: &'a ArgMatches<'_>) -> Option<Job<'a>> {
-    let form = if matches.get_flag("look") {
-        ReplyForm::Look
-    } else if matches.get_flag("json") {
-        ReplyForm::Json
-    } else {
-        ReplyForm::Lines
-    };
+    let look = matches.get_flag("look");
     match matches.get_str("SCRIPT") {
         Some(script) => Some(Job::Run {
             script,
             is_stream: matches.get_flag("stream"),
-            form,
+            form: form_of(matches),
+            look,
             dry_run: matches.get_flag("dry-run"),
         }),
-        None if form == ReplyForm::Look => Some(Job::Look),
+        None if look => Some(Job::Look),
         None => None,
     }
 }
@@ -333,12 +322,12 @@ fn paths_of<'a>(matches: &'a ArgMatches<'_>) -> Option<PathWords<'a>> {
 fn attributes_of<'a>(matches: &'a ArgMatches<'_>) -> AttributeWords<'a> {
     match matches.get_str("attributes") {
         Some(number) => AttributeWords::Number(number),
-        None => AttributeWords::Flags(Flags {
+        None => AttributeWords::Flags {
             inactive: matches.get_flag("inactive") || matches.get_flag("try"),
             hidden: matches.get_flag("hidden"),
             app: matches.get_flag("app"),
             reconnect: matches.get_flag("reconnect"),
-        }),
+        },
     }
 }
 
