@@ -4,6 +4,7 @@ from __future__ import annotations
 
 import contextlib
 import io
+import os
 import sys
 import tempfile
 import unittest
@@ -44,6 +45,29 @@ class Counts(unittest.TestCase):
         self.assertEqual(gate.gate_counts([], 0), (0, 1))
         self.assertEqual(gate.gate_counts(["rt: no crates.txt\n"], 0), (0, 1))
         self.assertEqual(gate.gate_counts(["46 passed, 0 failed\n", "Killed\n"], 0), (0, 1))
+
+
+class AtOnce(unittest.TestCase):
+    """How many crates are checked at once."""
+
+    def test_memory_for_each(self) -> None:
+        self.assertEqual(gate.at_once(4, 20_000_000_000), {"RT_JOBS": "4"})
+        self.assertEqual(gate.at_once(4, 19_999_999_999), {})
+
+    def test_a_control_group(self) -> None:
+        with tempfile.TemporaryDirectory() as folder:
+            group = Path(folder)
+            self.assertGreaterEqual(gate.processors(group), 1)
+            self.assertGreater(gate.free_memory(group), 0)
+            (group / "cpu.max").write_text("100000 100000\n", encoding="utf-8")
+            (group / "memory.max").write_text("3000000\n", encoding="utf-8")
+            (group / "memory.current").write_text("1000000\n", encoding="utf-8")
+            self.assertEqual(gate.processors(group), 1)
+            self.assertEqual(gate.free_memory(group), 2_000_000)
+            (group / "cpu.max").write_text("max 100000\n", encoding="utf-8")
+            (group / "memory.max").write_text("max\n", encoding="utf-8")
+            self.assertEqual(gate.processors(group), len(os.sched_getaffinity(0)))
+            self.assertGreater(gate.free_memory(group), 2_000_000)
 
 
 TESTS = """import unittest

@@ -2,6 +2,7 @@
 
 from __future__ import annotations
 
+import os
 import re
 import shutil
 import subprocess
@@ -28,6 +29,12 @@ ENDED = re.compile(r"^(\d+) passed, (\d+) failed")
 
 BAD_EDIT = ": BAD EDIT: "
 """What `rt ci` says of an edit that it can't apply, compile or read. Such a one shows nothing, and fails nothing there."""
+
+CHECK_MEMORY = 5_000_000_000
+"""How much memory the check of one crate takes at most, in bytes."""
+
+GROUP = Path("/sys/fs/cgroup")
+"""Where Linux tells what the control group of this machine or container may use."""
 
 UNPROVED = "check: the cases alone, over programs that aren't proved"
 
@@ -107,12 +114,42 @@ def script_tests(folder: Path = ROOT / "tests") -> Tuple[int, int]:
     return result.testsRun - failed - len(result.skipped), failed
 
 
+def numbers_in(file: Path, pattern: str) -> List[int]:
+    """The numbers that the pattern finds in a file, or none if it can't be read."""
+    try:
+        found = re.search(pattern, file.read_text(encoding="utf-8"), re.MULTILINE)
+    except OSError:
+        return []
+    return [int(it) for it in found.groups()] if found else []
+
+
+def processors(group: Path = GROUP) -> int:
+    """How many processors there are for this process."""
+    found = len(os.sched_getaffinity(0))
+    quota = numbers_in(group / "cpu.max", r"^(\d+) (\d+)")
+    return min(found, max(quota[0] // quota[1], 1)) if quota else found
+
+
+def free_memory(group: Path = GROUP) -> int:
+    """How much memory there is for this process, in bytes."""
+    available = [1024 * it for it in numbers_in(Path("/proc/meminfo"), r"^MemAvailable:\s+(\d+)")]
+    limit, used = (numbers_in(group / f"memory.{it}", r"^(\d+)") for it in ("max", "current"))
+    return min([*available, *(a - b for a, b in zip(limit, used))], default=0)
+
+
+def at_once(count: int, memory: int) -> Dict[str, str]:
+    """What has `rt ci` check as many crates at once as there are processors, if there is so much memory. By itself it counts on
+    about twice the memory that they take, and leaves processors idle for it."""
+    return {"RT_JOBS": str(count)} if memory >= count * CHECK_MEMORY else {}
+
+
 def gate() -> Tuple[int, int]:
     """What `rt ci` passed and failed."""
     said = []
     with subprocess.Popen(
         ["rt", "ci"],
         cwd=ROOT,
+        env={**at_once(processors(), free_memory()), **os.environ},
         stdin=subprocess.DEVNULL,
         stdout=subprocess.PIPE,
         text=True,
