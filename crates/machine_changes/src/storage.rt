@@ -2,7 +2,7 @@
 
 use crate::moves::{Moves, Way};
 use crate::owner::Identity;
-use crate::variable_file::{DueChange, is_in_file, write_due};
+use crate::variable_file::{DueChange, bytes_due, is_in_file, write_due};
 use boot_journal::{CallError, Change, Journal, Storage, write_journal};
 use boot_notes::{Notes, with_notes};
 use messages::{Failure, Reason};
@@ -112,21 +112,26 @@ impl<R: Files<File: OutputFile> + Input + Print + AllocGlobal> PlaceStorage<'_, 
 }
 
 impl<R: Files<File: OutputFile> + Input + Print + AllocGlobal> PlaceStorage<'_, R> {
-    /// Writes the changes of a variable file that aren't written yet.
+    /// Writes the changes of a variable file that aren't written yet. If it fails before something is written, nothing is to be
+    /// taken back of those that are made for the first time: another program may have put a file of its own there.
     fn write_due(&mut self) -> Result<(), Failure> {
-        match &mut self.place {
-            Place::Folder { .. } => Ok(()),
-            Place::File { path, lock, due } => {
-                let written = write_due(self.rt, path, lock, due);
-                due.clear();
-                if let Err(failure) = &written
-                    && is_untouched(failure)
-                {
-                    self.begun.clear();
-                }
-                written
-            }
+        let Place::File { path, lock, due } = &mut self.place else {
+            return Ok(());
+        };
+        let made = bytes_due(self.rt, path, due);
+        due.clear();
+        let written = match made {
+            Ok(None) => Ok(()),
+            Ok(Some(bytes)) => match write_due(self.rt, path, lock, &bytes) {
+                Err(failure) if !is_untouched(&failure) => return Err(failure),
+                written => written,
+            },
+            Err(failure) => Err(failure),
+        };
+        if written.is_err() && matches!(self.moves, Moves::First) {
+            self.begun.clear();
         }
+        written
     }
 
     /// Forgets the changes of a variable file that aren't written yet: an update is begun, or taken back without them.

@@ -3,8 +3,9 @@
 use crate::storage::from_change;
 use crate::values::set_value;
 use boot_journal::Change;
-use messages::Failure;
+use messages::{Failure, Reason};
 use std::alloc::{AllocError, Global};
+use std::io::{self, ErrorKind};
 use std::rt::Files;
 use uefi_vars::{ATTRIBUTES_LEN, Vars};
 use var_places::{ChangeFault, changed_variable_file, from_store, read_variables};
@@ -48,32 +49,51 @@ fn copied(alloc: Global, bytes: Option<&[u8]>) -> Result<Option<Vec<u8>>, AllocE
     }
 }
 
-/// Makes the changes in the file at this path, which is locked, and is replaced as a whole. Nothing is written if it has them
-/// already.
+/// The bytes that the file at this path is to have with the changes, which is locked: `None` if it has them already. Nothing is
+/// written.
 ///
 /// # Errors
 ///
-/// [`Failure::Read`] and [`Failure::Write`] with the system's reason, [`Failure::Refused`] if the file is damaged or has no
-/// room, or a variable that is changed for the first time isn't what was read of it, and [`Failure::Memory`] if memory was
-/// refused.
-pub(crate) fn write_due<R: Files<File: OutputFile> + Input + Print + AllocGlobal>(
+/// [`Failure::Read`] with the system's reason, [`Failure::Refused`] if the file is damaged or has no room, or a variable that is
+/// changed for the first time isn't what was read of it, and [`Failure::Memory`] if memory was refused.
+pub(crate) fn bytes_due<R: Files + Input + AllocGlobal>(
     rt: &R,
     path: &str,
-    lock: &mut FileLock<R::File>,
     due: &[DueChange],
-) -> Result<(), Failure> {
+) -> Result<Option<Vec<u8>>, Failure> {
     if due.is_empty() {
-        return Ok(());
+        return Ok(None);
     }
     let alloc = rt.alloc();
     let bytes = read_variables(rt, path)?;
     let stored = read_stored(alloc, path, &bytes)?;
     check_unchanged(alloc, path, &stored, due)?;
-    match changed_file(alloc, path, (&bytes, &stored), due)? {
-        Some(bytes) => rewrite_file(rt, lock, &bytes).map_err(|error| Failure::from_write(
-            alloc, path, error,
-        )),
-        None => Ok(()),
+    changed_file(alloc, path, (&bytes, &stored), due)
+}
+
+/// Replaces the file at this path, which is locked, by one with these bytes, and keeps the lock.
+///
+/// # Errors
+///
+/// [`Failure::Refused`] if another program has put another file there since it was locked: nothing was written then.
+/// [`Failure::Write`] with the system's reason otherwise.
+pub(crate) fn write_due<R: Files<File: OutputFile> + AllocGlobal>(
+    rt: &R,
+    path: &str,
+    lock: &mut FileLock<R::File>,
+    bytes: &[u8],
+) -> Result<(), Failure> {
+    match rewrite_file(rt, lock, bytes) {
+        Ok(()) => Ok(()),
+        Err(error) => Err(from_rewriting(rt.alloc(), path, error)),
+    }
+}
+
+/// What it is to the program that the file at this path can't be replaced.
+fn from_rewriting(alloc: Global, path: &str, error: io::Error) -> Failure {
+    match error.kind() {
+        ErrorKind::ResourceBusy => Failure::refused(alloc, path, Reason::ChangedMeanwhile),
+        _ => Failure::from_write(alloc, path, error),
     }
 }
 
@@ -107,28 +127,27 @@ fn changed_file(
     if due.iter().all(|change| stored.has(change)) {
         return Ok(None);
     }
+    let bytes = renewed_file(alloc, path, (bytes, stored), due)?;
+    let made = stored.made(alloc, due)?;
+    Ok(Some(changed_variable_file(alloc, path, &bytes, &made.vars, &made.attributes)?))
+}
+
+/// The file without the variables whose attributes are to be others, while their data stays: a record with the same data isn't
+/// written anew.
+fn renewed_file(
+    alloc: Global,
+    path: &str,
+    (bytes, stored): (&[u8], &Stored),
+    due: &[DueChange],
+) -> Result<Vec<u8>, Failure> {
     let mut renewed = stored.vars.copy(alloc)?;
-    let mut vars = stored.vars.copy(alloc)?;
-    let mut attributes = Vars::new(alloc);
     for change in due {
         let name = change.name.as_str();
-        let after = change
-            .after
-            .as_deref()
-            .and_then(|kept| kept.split_at_checked(ATTRIBUTES_LEN));
         if stored.has_data(name, change.after.as_deref()) && !stored.has(change) {
-            // Its attributes are others, and a record with the same data isn't written anew.
             renewed.remove(name);
         }
-        set_value(&mut vars, name, after.map(|(_attributes, data)| data))?;
-        set_value(
-            &mut attributes,
-            name,
-            after.map(|(attributes, _data)| attributes),
-        )?;
     }
-    let bytes = changed_variable_file(alloc, path, bytes, &renewed, &Vars::new(alloc))?;
-    Ok(Some(changed_variable_file(alloc, path, &bytes, &vars, &attributes)?))
+    changed_variable_file(alloc, path, bytes, &renewed, &Vars::new(alloc))
 }
 
 /// Whether the change is made in the file at this path.
@@ -154,6 +173,34 @@ struct Stored {
 }
 
 impl Stored {
+    /// What is stored once the changes are made, with the attributes of those that are changed alone. This fails only when out
+    /// of memory.
+    fn made(&self, alloc: Global, due: &[DueChange]) -> Result<Stored, AllocError> {
+        let mut made = Stored {
+            vars: self.vars.copy(alloc)?,
+            attributes: Vars::new(alloc),
+        };
+        for change in due {
+            made.set(change)?;
+        }
+        Ok(made)
+    }
+
+    /// Makes the change.
+    fn set(&mut self, change: &DueChange) -> Result<(), AllocError> {
+        let name = change.name.as_str();
+        let after = change
+            .after
+            .as_deref()
+            .and_then(|kept| kept.split_at_checked(ATTRIBUTES_LEN));
+        set_value(&mut self.vars, name, after.map(|(_attributes, data)| data))?;
+        set_value(
+            &mut self.attributes,
+            name,
+            after.map(|(attributes, _data)| attributes),
+        )
+    }
+
     /// Whether the change is made.
     fn has(&self, change: &DueChange) -> bool {
         self.keeps(change.name.as_str(), change.after.as_deref())
