@@ -30,4 +30,4 @@ pub use edit::{Edit, make_edit};
 pub use fault::EditFault;
 pub use reorder::NewOrder;
 pub use restore::Restore;
-pub use run::{EditRun, EditRunFault};
+pub use run::{EditRun, EditRunFault, EditedVars};

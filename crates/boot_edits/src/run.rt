@@ -9,7 +9,9 @@ ghost use Rattle.boot_edits.specs.Run.{IsEditRefusal};
 use crate::answer::EditAnswer;
 use crate::edit::{Edit, make_edit};
 use crate::fault::EditFault;
-use boot_journal::{CallError, Run, with_attributes_or, without_attributes_or};
+use boot_journal::{
+    CallError, Run, laws as journal_laws, with_attributes_or, without_attributes_or,
+};
 use std::alloc::{AllocError, Global};
 use thiserror::Error;
 use uefi_vars::Vars;
@@ -55,6 +57,50 @@ impl EditRunFault {
     }
 }
 
+/// What an edit leads to over a machine's variables.
+#[derive(Drop)]
+pub struct EditedVars {
+    /// The variables before it, without their attributes.
+    pub from: Vars,
+    /// The variables after it, without their attributes.
+    pub to: Vars,
+    /// The variables after it, as the machine is to keep them.
+    pub kept: Vars,
+    /// What the edit tells.
+    pub answer: EditAnswer,
+}
+
+impl EditRun<'_> {
+    ghost use Rattle.boot_journal.specs.Attributes.{data_of};
+    ghost use Rattle.boot_edits.specs.Run.{IsRun, IsRunFault};
+
+    /// Takes the attributes off the variables of the boot manager, edits what is left, and puts the attributes on again: a
+    /// variable that is replaced has those that it had, and a new one has
+    /// [`BOOT_ATTRIBUTES`](uefi_vars::BOOT_ATTRIBUTES).
+    ///
+    /// # Errors
+    ///
+    /// [`CallError::Refused`] with the fault that the edit or what the machine keeps has, and [`CallError::OutOfMemory`] if
+    /// memory was refused.
+    pub fn make(&self, alloc: Global, vars: &Vars) -> Result<EditedVars, CallError<EditRunFault>>
+        ensures edited { IfOk result (λ led. IsRun self.now.edit vars.now led.kept led.answer) }
+        ensures from { IfOk result (λ led. led.from ≡ data_of vars.now) }
+        ensures to { IfOk result (λ led. led.to ≡ data_of led.kept) }
+        ensures refused { IfErr result (λ error. IfRefused error (IsRunFault self.now.edit vars.now)) }
+    {
+        journal_laws::attributes_and_data_are_what_is_kept();
+        let from = without_attributes_or(alloc, vars, EditRunFault::NoData)?;
+        let (to, answer) = edited(alloc, &from, &self.edit)?;
+        let kept = with_attributes_or(alloc, &to, vars, EditRunFault::TooLong)?;
+        Ok(EditedVars {
+            from,
+            to,
+            kept,
+            answer,
+        })
+    }
+}
+
 impl Run for EditRun<'_> {
     ghost use Rattle.boot_edits.specs.Run.{IsRun, IsRunFault};
 
@@ -66,18 +112,19 @@ impl Run for EditRun<'_> {
 
     ghost refuses = { λ run from fault. IsRunFault run.edit from fault };
 
-    /// Takes the attributes off the variables of the boot manager, edits what is left, and puts the attributes on again: a
-    /// variable that is replaced has those that it had, and a new one has
-    /// [`BOOT_ATTRIBUTES`](uefi_vars::BOOT_ATTRIBUTES).
+    /// Makes the edit as [`EditRun::make`] does.
     fn run(
         self,
         alloc: Global,
         vars: &Vars,
     ) -> Result<(Vars, EditAnswer), CallError<EditRunFault>> {
-        let set = without_attributes_or(alloc, vars, EditRunFault::NoData)?;
-        let (edited, answer) = edited(alloc, &set, &self.edit)?;
-        let to = with_attributes_or(alloc, &edited, vars, EditRunFault::TooLong)?;
-        Ok((to, answer))
+        let EditedVars {
+            from: _,
+            to: _,
+            kept,
+            answer,
+        } = self.make(alloc, vars)?;
+        Ok((kept, answer))
     }
 }
 

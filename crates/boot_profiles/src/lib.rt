@@ -27,4 +27,4 @@ pub use fault::{EntryFault, NameFault, ProfileFault};
 pub use profile::{
     EntryState, PresentEntry, Profile, ProfileEntry, ProfileNext, ProfileOrder, ProfileTimeout,
 };
-pub use run::{ProfileRun, ProfileRunFault};
+pub use run::{AppliedProfile, ProfileRun, ProfileRunFault};

@@ -9,7 +9,9 @@ ghost use Rattle.boot_profiles.specs.declared.run.ProfileRunFault.TheVariants as
 use crate::applying::apply;
 use crate::fault::ProfileFault;
 use crate::profile::Profile;
-use boot_journal::{CallError, Run, with_attributes_or, without_attributes_or};
+use boot_journal::{
+    CallError, Run, laws as journal_laws, with_attributes_or, without_attributes_or,
+};
 use std::alloc::Global;
 use thiserror::Error;
 use uefi_vars::Vars;
@@ -36,6 +38,47 @@ pub enum ProfileRunFault {
     TooLong,
 }
 
+/// What a profile leads to over a machine's variables.
+#[derive(Drop)]
+pub struct AppliedProfile {
+    /// The variables before it, without their attributes.
+    pub from: Vars,
+    /// The variables after it, without their attributes.
+    pub to: Vars,
+    /// The variables after it, as the machine is to keep them.
+    pub kept: Vars,
+}
+
+impl ProfileRun<'_> {
+    ghost use Rattle.boot_journal.specs.Attributes.{data_of};
+    ghost use Rattle.boot_profiles.specs.Run.{IsRun, IsRunFault};
+
+    /// Takes the attributes off the variables of the boot manager, applies the profile, and puts the attributes on
+    /// again: a variable that is replaced has those that it had, and a new one has
+    /// [`BOOT_ATTRIBUTES`](uefi_vars::BOOT_ATTRIBUTES).
+    ///
+    /// # Errors
+    ///
+    /// [`CallError::Refused`] with the fault that the profile or what the machine keeps has, and [`CallError::OutOfMemory`]
+    /// if memory was refused.
+    pub fn make(
+        &self,
+        alloc: Global,
+        vars: &Vars,
+    ) -> Result<AppliedProfile, CallError<ProfileRunFault>>
+        ensures applied { IfOk result (λ led. IsRun self.now.profile.now vars.now led.kept) }
+        ensures from { IfOk result (λ led. led.from ≡ data_of vars.now) }
+        ensures to { IfOk result (λ led. led.to ≡ data_of led.kept) }
+        ensures refused { IfErr result (λ error. IfRefused error (IsRunFault self.now.profile.now vars.now)) }
+    {
+        journal_laws::attributes_and_data_are_what_is_kept();
+        let from = without_attributes_or(alloc, vars, ProfileRunFault::NoData)?;
+        let to = applied(alloc, &from, self.profile)?;
+        let kept = with_attributes_or(alloc, &to, vars, ProfileRunFault::TooLong)?;
+        Ok(AppliedProfile { from, to, kept })
+    }
+}
+
 impl Run for ProfileRun<'_> {
     ghost use Rattle.boot_profiles.specs.Run.{IsRun, IsRunFault};
 
@@ -47,14 +90,14 @@ impl Run for ProfileRun<'_> {
 
     ghost refuses = { λ run from fault. IsRunFault run.profile.now from fault };
 
-    /// Takes the attributes off the variables of the boot manager, applies the profile, and puts the attributes on
-    /// again: a variable that is replaced has those that it had, and a new one has
-    /// [`BOOT_ATTRIBUTES`](uefi_vars::BOOT_ATTRIBUTES).
+    /// Applies the profile as [`ProfileRun::make`] does.
     fn run(self, alloc: Global, vars: &Vars) -> Result<(Vars, ()), CallError<ProfileRunFault>> {
-        let set = without_attributes_or(alloc, vars, ProfileRunFault::NoData)?;
-        let applied = applied(alloc, &set, self.profile)?;
-        let to = with_attributes_or(alloc, &applied, vars, ProfileRunFault::TooLong)?;
-        Ok((to, ()))
+        let AppliedProfile {
+            from: _,
+            to: _,
+            kept,
+        } = self.make(alloc, vars)?;
+        Ok((kept, ()))
     }
 }
 

@@ -1,17 +1,17 @@
 //! Runs of requests over a machine's variables, of which it is noted what they applied. None is made if something isn't as
 //! it was expected.
 
-ghost use Rattle.std.specs.Prelude.{◌≡◌, [], Some};
+ghost use Rattle.std.specs.Prelude.{◌≡◌, [], Some, IfOk, IfErr};
 
 use crate::guarded::{Unmet, unmet_of};
 use crate::noted::{Noted, note_run};
-use boot_journal::{CallError, Run};
+use boot_journal::CallError;
 use boot_requests::Answer;
 use journaled_requests::{AnsweredRequests, Requests, RunFault};
 use request_preconditions::{IDENTITY_LEN, MachineState, Precondition};
 use std::alloc::Global;
 use uefi_vars::Vars;
-use wanted_changes::{KeptNotes, leave_out};
+use wanted_changes::{KeptNotes, Led, Sets, leave_out};
 
 /// Events that are run over a machine's variables.
 #[derive(Clone, Copy)]
@@ -43,8 +43,9 @@ pub struct Answered {
     pub noted: Noted,
 }
 
-impl Run for RequestsRun<'_> {
+impl RequestsRun<'_> {
     ghost use Rattle.boot_journal.specs.Attributes.{data_of};
+    ghost use Rattle.boot_journal.specs.Cause.{IfRefused};
     ghost use Rattle.journaled_requests.specs.Requests.{IsAnswered, IsNextOf};
     ghost use Rattle.journaled_requests.specs.RunFault.{IsRunFault};
     ghost use Rattle.boot_updates.specs.Guarded.{AreMet, IsGuarded};
@@ -53,45 +54,64 @@ impl Run for RequestsRun<'_> {
     ghost use Rattle.std.specs.String.{string_bytes};
     ghost use Rattle.wanted_changes.specs.LeftOut.{without_names};
 
-    type Answer = Answered;
-
-    type Fault = RunFault;
-
-    ghost leads = { λ run from to answered. (answered.journal ≡ run.journal) × IsNextOf from answered.first
-        × IsGuarded (AreMet run.journal answered.first (without_names (data_of from) (map string_bytes run.left_out.now)) run.preconditions.now)
-        (IsAnswered run.requests.events.now from to answered.answers.items
-        × AreToldBy answered.noted.before answered.first run.requests.events.now answered.answers.items answered.noted.same.items)
-        from to answered.answers.items answered.unmet };
-
-    ghost refuses = { λ run from fault. IsRunFault run.requests.events.now from fault };
-
-    fn run(self, alloc: Global, vars: &Vars) -> Result<(Vars, Answered), CallError<RunFault>> {
+    /// Runs the events over these variables, which are as the machine keeps them, and notes what they applied, if all is as it
+    /// is expected. Otherwise nothing is run.
+    ///
+    /// # Errors
+    ///
+    /// [`CallError::Refused`] with the fault that what the machine keeps has, and [`CallError::OutOfMemory`] if memory was
+    /// refused.
+    pub(crate) fn lead(
+        &self,
+        alloc: Global,
+        vars: &Vars,
+    ) -> Result<Led<Answered>, CallError<RunFault>>
+        ensures done { IfOk result (λ led. (led.answer.journal ≡ self.now.journal) × IsNextOf vars.now led.answer.first
+            × IsGuarded (AreMet self.now.journal led.answer.first
+            (without_names (data_of vars.now) (map string_bytes self.now.left_out.now)) self.now.preconditions.now)
+            (IsAnswered self.now.requests.events.now vars.now led.kept led.answer.answers.items
+            × AreToldBy led.answer.noted.before led.answer.first self.now.requests.events.now led.answer.answers.items
+            led.answer.noted.same.items)
+            vars.now led.kept led.answer.answers.items led.answer.unmet) }
+        ensures from { IfOk result (λ led. led.sets.from ≡ data_of vars.now) }
+        ensures to { IfOk result (λ led. led.sets.to ≡ data_of led.kept) }
+        ensures refused { IfErr result (λ error. IfRefused error (IsRunFault self.now.requests.events.now vars.now)) }
+    {
         let AnsweredRequests {
-            mut set,
+            from,
             first,
             to,
+            kept,
             answers,
         } = self.requests.answer(alloc, vars)?;
-        leave_out(&mut set, self.left_out);
+        let mut known = from.copy(alloc)?;
+        leave_out(&mut known, self.left_out);
         let state = MachineState {
             journal: self.journal,
             next_number: first,
-            vars: &set,
+            vars: &known,
         };
         if let Some(unmet) = unmet_of(alloc, self.preconditions, &state)? {
-            return Ok((vars.copy(alloc)?, Answered::not_run(alloc, unmet, &state)));
+            let to = from.copy(alloc)?;
+            let kept = vars.copy(alloc)?;
+            return Ok(Led {
+                sets: Sets { from, to },
+                kept,
+                answer: Answered::not_run(alloc, unmet, &state),
+            });
         }
         let noted = note_run(alloc, self.notes, first, self.requests.events, &answers)?;
-        Ok((
-            to,
-            Answered {
+        Ok(Led {
+            sets: Sets { from, to },
+            kept,
+            answer: Answered {
                 unmet: None,
                 journal: self.journal,
                 first,
                 answers,
                 noted,
             },
-        ))
+        })
     }
 }
 

@@ -6,14 +6,14 @@ use crate::not_made::{NotMade, from_run};
 use crate::replies::{Replies, ReplyForm, next_in};
 use crate::requests_run::{Answered, RequestsRun};
 use crate::script::Script;
-use boot_journal::{CallError, Run};
+use boot_journal::CallError;
 use boot_texts::{Look, TellsTrial, UnnamedWords, changes_text, look_json};
 use journaled_requests::{Requests, RunFault};
 use messages::Failure;
 use request_preconditions::Precondition;
 use std::alloc::{AllocError, Global};
 use uefi_vars::{KEEP_STATE, Vars, naming_change};
-use wanted_changes::{Remarks, Seen, SetChange, Told, Wanted, identity_digits, leave_out};
+use wanted_changes::{Led, Remarks, Seen, SetChange, Told, Wanted, identity_digits, leave_out};
 
 /// What is printed of an update.
 #[derive(Clone, Copy, Debug)]
@@ -84,7 +84,7 @@ impl<T: TellsTrial> Wanted for WantedRequests<'_, '_, '_, T> {
         alloc: Global,
         seen: &Seen<'_>,
         vars: &Vars,
-    ) -> Result<(Vars, Answered), CallError<RunFault>> {
+    ) -> Result<Led<Answered>, CallError<RunFault>> {
         let script = self.script;
         let run = RequestsRun {
             requests: Requests {
@@ -95,7 +95,7 @@ impl<T: TellsTrial> Wanted for WantedRequests<'_, '_, '_, T> {
             left_out: seen.left_out,
             notes: seen.notes,
         };
-        run.run(alloc, vars)
+        run.lead(alloc, vars)
     }
 
     fn tell(

@@ -106,12 +106,13 @@ fn run_frames(
     match (Requests { events }).answer(alloc, vars) {
         Ok(
             AnsweredRequests {
-                set: _,
+                from: _,
                 first,
-                to,
+                to: _,
+                kept,
                 answers,
             },
-        ) => Ok((to, RunAnswer::Replies(Replied { first, answers }))),
+        ) => Ok((kept, RunAnswer::Replies(Replied { first, answers }))),
         Err(CallError::Refused(fault)) => Err(CallError::Refused(RunRefusal::Frames(fault))),
         Err(CallError::OutOfMemory) => Err(CallError::OutOfMemory),
     }

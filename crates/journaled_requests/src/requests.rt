@@ -7,7 +7,9 @@ ghost use Rattle.boot_requests.specs.Turn.{plain_start};
 ghost use Rattle.boot_journal.specs.Cause.{IfRefused};
 ghost use Rattle.journaled_requests.specs.RunFault.{IsOpenRefusal};
 
-use boot_journal::{CallError, Run, with_attributes_or, without_attributes_or};
+use boot_journal::{
+    CallError, Run, laws as journal_laws, with_attributes_or, without_attributes_or,
+};
 use boot_requests::{Answer, Event, Keeper, OpenFault, answer_events, laws};
 use std::alloc::{AllocError, Global};
 use thiserror::Error;
@@ -58,11 +60,13 @@ impl RunFault {
 #[derive(Drop)]
 pub struct AnsweredRequests {
     /// The variables before them, without their attributes.
-    pub set: Vars,
+    pub from: Vars,
     /// The number of the request that was to be applied next before them.
     pub first: u32,
-    /// The variables after them, as the machine is to keep them.
+    /// The variables after them, without their attributes.
     pub to: Vars,
+    /// The variables after them, as the machine is to keep them.
+    pub kept: Vars,
     /// The answers to the events.
     pub answers: Vec<Answer>,
 }
@@ -85,22 +89,26 @@ impl Requests<'_> {
         alloc: Global,
         vars: &Vars,
     ) -> Result<AnsweredRequests, CallError<RunFault>>
-        ensures answered { IfOk result (λ led. IsAnswered self.now.events.now vars.now led.to led.answers.items) }
-        ensures set { IfOk result (λ led. led.set ≡ data_of vars.now) }
+        ensures answered { IfOk result (λ led. IsAnswered self.now.events.now vars.now led.kept led.answers.items) }
+        ensures from { IfOk result (λ led. led.from ≡ data_of vars.now) }
+        ensures to { IfOk result (λ led. led.to ≡ data_of led.kept) }
         ensures first { IfOk result (λ led. IsNextOf vars.now led.first) }
         ensures refused { IfErr result (λ error. IfRefused error (IsRunFault self.now.events.now vars.now)) }
     {
         laws::a_start_stands_for_no_events();
         laws::variables_open_as_one_state();
-        let set = without_attributes_or(alloc, vars, RunFault::NoData)?;
-        let keeper = open(alloc, set.copy(alloc)?)?;
+        journal_laws::attributes_and_data_are_what_is_kept();
+        let from = without_attributes_or(alloc, vars, RunFault::NoData)?;
+        let keeper = open(alloc, from.copy(alloc)?)?;
         let first = keeper.next_number();
         let (keeper, answers) = answer_events(alloc, keeper, self.events)?;
-        let to = with_attributes_or(alloc, &keeper.into_vars(), vars, RunFault::TooLong)?;
+        let to = keeper.into_vars();
+        let kept = with_attributes_or(alloc, &to, vars, RunFault::TooLong)?;
         Ok(AnsweredRequests {
-            set,
+            from,
             first,
             to,
+            kept,
             answers,
         })
     }
@@ -121,12 +129,13 @@ impl Run for Requests<'_> {
     /// Runs the events as [`Requests::answer`] does.
     fn run(self, alloc: Global, vars: &Vars) -> Result<(Vars, Vec<Answer>), CallError<RunFault>> {
         let AnsweredRequests {
-            set: _,
+            from: _,
             first: _,
-            to,
+            to: _,
+            kept,
             answers,
         } = self.answer(alloc, vars)?;
-        Ok((to, answers))
+        Ok((kept, answers))
     }
 }
 

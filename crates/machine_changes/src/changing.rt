@@ -3,19 +3,20 @@
 use crate::failures::{from_settling, from_updating};
 use crate::file_changes::{changed_bytes, changed_set_bytes, settle_left};
 use crate::history::History;
-use crate::kept_run::{KeptFault, Telling, ToldAnswer, kept_command};
+use crate::kept_run::{KeptFault, KeptRun, SeenChange, ToldAnswer, ToldChange, kept_command};
 use crate::kept_vars::KeptVars;
 use crate::notes::{begin_notes, notes_of};
 use crate::opened::{
-    KeptFile, OpenedPlace, open_machine, open_place, read_kept, read_kept_file, read_kept_set,
+    KeptFile, Machine, OpenedPlace, open_machine, open_place, read_kept, read_kept_file,
+    read_kept_set,
 };
 use crate::owner::name_of_machine;
 use crate::place_kind::PlaceKind;
 use crate::standing::{SettledMachine, settled_file, settled_machine};
 use crate::state_use::{StateUse, file_state, keep_before, state_folder};
 use crate::told::tell_of_due;
-use boot_journal::{CallError, CommandError, Run};
-use boot_notes::Notes;
+use boot_journal::{CallError, CommandError};
+use boot_notes::{IDENTITY_LEN, Notes};
 use machine_names::MachineName;
 use messages::{Failure, note};
 use std::alloc::Global;
@@ -24,7 +25,7 @@ use std::rc::Rc;
 use std::rt::{Clock, Files};
 use uefi_vars::Vars;
 use var_places::{lock_place, write};
-use wanted_changes::{MachineWords, Seen, SetChange, Told, Wanted, journal_identity, set_of};
+use wanted_changes::{KeptNotes, MachineWords, Seen, Wanted, journal_identity};
 use whole_files::OutputFile;
 
 /// How a change is to be made.
@@ -38,62 +39,6 @@ pub struct ChangeOptions<'a> {
     pub dry_run: bool,
     /// What is done about the state folder.
     pub state: StateUse,
-}
-
-/// A change that is wanted of a machine of which this is known.
-#[derive(Drop)]
-struct SeenRun<'a, 's, W> {
-    /// The name of the machine's place.
-    place: &'s str,
-    /// Whether nothing is changed.
-    dry_run: bool,
-    /// The change.
-    wanted: &'a W,
-    /// What is known of the machine.
-    seen: &'s Seen<'s>,
-}
-
-impl<W: Wanted> Run for &SeenRun<'_, '_, W> {
-    type Answer = W::Answer;
-
-    type Fault = W::Fault;
-
-    ghost leads = { λ run from to answer. W.leads run.now.wanted.now run.now.seen.now from to answer };
-
-    ghost refuses = { λ run from fault. W.refuses run.now.wanted.now run.now.seen.now from fault };
-
-    fn run(self, alloc: Global, vars: &Vars) -> Result<(Vars, W::Answer), CallError<W::Fault>> {
-        self.wanted.run(alloc, self.seen, vars)
-    }
-}
-
-impl<W: Wanted> Telling<W::Answer> for SeenRun<'_, '_, W> {
-    ghost tells = { λ run from to answer told. Unit {0} };
-
-    fn tell(
-        &self,
-        alloc: Global,
-        from: &Vars,
-        to: &Vars,
-        answer: &W::Answer,
-    ) -> Result<Told, Failure> {
-        let from = set_of(alloc, self.place, from)?;
-        let to = set_of(alloc, self.place, to)?;
-        let change = SetChange {
-            from: &from,
-            to: &to,
-            is_coming: self.dry_run,
-        };
-        Ok(self.wanted.tell(alloc, self.seen, change, answer)?)
-    }
-
-    fn begin(&self, answer: &W::Answer) -> Result<(), Failure> {
-        self.wanted.begin(answer)
-    }
-
-    fn take_back(&self) {
-        self.wanted.take_back();
-    }
 }
 
 /// Does what is left of earlier updates of a machine, and then makes a change of its variables, or looks what it would be
@@ -145,7 +90,7 @@ where
     if settled.is_due {
         tell_of_due(rt, machine.state);
     }
-    Ok(led_of(rt, options, wanted, &kept, (&settled.vars, notes))?.answered)
+    Ok(lead(rt, options, wanted, &kept, (&settled.vars, notes))?.answered)
 }
 
 /// Takes what the change replaces out of what can't be held, and refuses one of the rest of that.
@@ -171,23 +116,14 @@ fn settled<R: Files + Eprint + AllocGlobal>(
     }
 }
 
-/// What a change leads to.
-#[derive(Drop)]
-struct Led<A> {
-    /// The variables.
-    to: Vars,
-    /// What it answers, and what is told of it.
-    answered: ToldAnswer<A>,
-}
-
 /// What the change leads to from these variables of the machine, which keeps this, and has these notes beside its journal.
-fn led_of<R, W>(
+fn lead<R, W>(
     rt: &R,
     options: &ChangeOptions<'_>,
     wanted: &W,
     kept: &KeptVars,
     (vars, notes): (&Vars, Option<Notes>),
-) -> Result<Led<W::Answer>, W::Refusal>
+) -> Result<ToldChange<W::Answer>, W::Refusal>
 where
     R: Files + AllocGlobal,
     W: Wanted,
@@ -201,33 +137,15 @@ where
         journal: journal_identity(&notes),
         notes: &notes,
     };
-    let run = SeenRun {
-        place: options.machine.place,
-        dry_run: options.dry_run,
+    let change = SeenChange {
         wanted,
         seen: &seen,
+        is_coming: options.dry_run,
     };
-    led_from(rt.alloc(), &run, vars)
-}
-
-/// What the change leads to from these variables.
-fn led_from<W: Wanted>(
-    alloc: Global,
-    run: &SeenRun<'_, '_, W>,
-    vars: &Vars,
-) -> Result<Led<W::Answer>, W::Refusal> {
-    let wanted = run.wanted;
-    match wanted.run(alloc, run.seen, vars) {
-        Ok((to, answer)) => {
-            let told = run.tell(alloc, vars, &to, &answer)?;
-            Ok(Led {
-                to,
-                answered: ToldAnswer { answer, told },
-            })
-        }
-        Err(CallError::OutOfMemory) => Err(W::Refusal::from(Failure::Memory)),
-        Err(CallError::Refused(fault)) => Err(wanted.refusal(alloc, fault)),
-    }
+    change.lead(rt.alloc(), vars).map_err(|error| match error {
+        CallError::OutOfMemory => W::Refusal::from(Failure::Memory),
+        CallError::Refused(fault) => refusal_of(rt.alloc(), wanted, fault),
+    })
 }
 
 /// Makes the change by the journal.
@@ -243,11 +161,8 @@ where
     let machine = &options.machine;
     let folder = state_folder(rt, machine, options.state)?;
     let mut opened = open_place(rt, machine)?;
-    if let Some(replaced) = wanted.replaced() {
-        opened.let_go(replaced);
-    }
-    wanted.check(rt.alloc(), opened.left_out())?;
-    let name = name_of_machine(rt, machine, opened.is_folder())?;
+    prepare(rt.alloc(), wanted, &mut opened.kept)?;
+    let name = name_of_machine(rt, machine, opened.kept.is_folder)?;
     let answered = change_opened(rt, options, (opened, &name), (wanted, folder.journal()))?;
     wanted.end(&answered.answer);
     Ok(answered)
@@ -266,34 +181,56 @@ where
     W: Wanted,
 {
     let machine = &options.machine;
-    let is_folder = opened.is_folder();
-    let left_out = opened.copy_left_out(rt.alloc())?;
+    let is_folder = opened.kept.is_folder;
+    let left_out = opened.kept.copy_left_out(rt.alloc())?;
     let (mut kept, boot) = open_machine(rt, machine, opened, journal_path)?;
-    let notes = notes_of(kept.storage())?;
-    let journal = journal_identity(&notes);
-    if wanted.has_requests() {
-        begin_notes(rt, &kept)?;
-    }
+    let notes = notes_to_keep(rt, wanted, &kept)?;
     let seen = Seen {
         left_out: &left_out,
         machine: name,
         is_folder,
-        journal,
-        notes: &notes,
+        journal: notes.journal,
+        notes: &notes.kept,
     };
-    let run = SeenRun {
-        place: machine.place,
-        dry_run: false,
+    let change = SeenChange {
         wanted,
         seen: &seen,
+        is_coming: false,
     };
-    let history = history_of(options, name);
-    kept_command(rt, &mut kept, &run, &run, history, &boot).map_err(|error| from_command(
+    let run = KeptRun {
+        rt,
+        change: &change,
+        history: history_of(options, name),
+    };
+    kept_command(&mut kept, run, &boot).map_err(|error| from_command(
         rt.alloc(),
         machine,
         wanted,
         error,
     ))
+}
+
+/// What is kept beside a machine's journal.
+#[derive(Drop)]
+struct NotesToKeep {
+    /// The notes, which are written with the journal.
+    kept: Rc<KeptNotes>,
+    /// The identity that was kept there before, if one was.
+    journal: Option<[u8; IDENTITY_LEN]>,
+}
+
+/// What is kept beside the journal of the machine. For requests notes are begun, if there are none.
+fn notes_to_keep<R, W>(rt: &R, wanted: &W, machine: &Machine<'_, R>) -> Result<NotesToKeep, Failure>
+where
+    R: Files<File: OutputFile> + Input + Print + AllocGlobal,
+    W: Wanted,
+{
+    let kept = notes_of(machine.storage())?;
+    let journal = journal_identity(&kept);
+    if wanted.has_requests() {
+        begin_notes(rt, machine)?;
+    }
+    Ok(NotesToKeep { kept, journal })
 }
 
 /// Where what was there before a change of the machine of this name is kept.
@@ -314,14 +251,18 @@ fn from_command<W: Wanted>(
 ) -> W::Refusal {
     match error {
         CommandError::OutOfMemory => W::Refusal::from(Failure::Memory),
-        CommandError::Run(KeptFault::Run(fault)) => wanted.refusal(alloc, fault),
-        CommandError::Run(
-            KeptFault::Telling(failure)
-            | KeptFault::History(failure)
-            | KeptFault::Beginning(failure),
-        ) => W::Refusal::from(failure),
+        CommandError::Run(fault) => refusal_of(alloc, wanted, fault),
         CommandError::Settling(error) => W::Refusal::from(from_settling(alloc, machine, error)),
         CommandError::Updating(error) => W::Refusal::from(from_updating(alloc, machine, error)),
+    }
+}
+
+/// What keeps a change from being made that has this fault.
+fn refusal_of<W: Wanted>(alloc: Global, wanted: &W, fault: KeptFault<W::Fault>) -> W::Refusal {
+    match fault {
+        KeptFault::Run(fault) => wanted.refusal(alloc, fault),
+        KeptFault::Telling(failure) | KeptFault::History(failure) | KeptFault::Beginning(failure) =>
+            W::Refusal::from(failure),
     }
 }
 
@@ -356,19 +297,58 @@ where
     R: Files<File: OutputFile> + Clock + Input + Print + Eprint + AllocGlobal,
     W: Wanted,
 {
-    let machine = &options.machine;
-    let output = lock_place(rt, machine.place)?;
-    let KeptFile { bytes, mut kept } = read_kept_file(rt, machine)?;
-    prepare(rt.alloc(), wanted, &mut kept)?;
-    let Led { to, answered } = led_of(rt, options, wanted, &kept, (&kept.vars, None))?;
-    if let Some(bytes) = changed_bytes(rt.alloc(), machine.place, (&bytes, &kept), &to)? {
-        if is_kept {
-            let name = name_of_machine(rt, machine, false)?;
-            keep_before(rt, machine, (&name, options.command), (&kept.vars, &to))?;
-        }
+    let output = lock_place(rt, options.machine.place)?;
+    let LedFile { bytes, answered } = led_of_file(rt, options, wanted, is_kept)?;
+    if let Some(bytes) = bytes {
         write(rt, output, &bytes)?;
     }
     Ok(answered)
+}
+
+/// What a change leads to in a file.
+#[derive(Drop)]
+struct LedFile<A> {
+    /// What the file is to be: `None` if the change changes nothing.
+    bytes: Option<Vec<u8>>,
+    /// What the change answers, and what is told of it.
+    answered: ToldAnswer<A>,
+}
+
+/// What the change leads to in the variable file. What was there before is kept, if the state folder is to keep it.
+fn led_of_file<R, W>(
+    rt: &R,
+    options: &ChangeOptions<'_>,
+    wanted: &W,
+    is_kept: bool,
+) -> Result<LedFile<W::Answer>, W::Refusal>
+where
+    R: Files<File: OutputFile> + Clock + Input + Eprint + AllocGlobal,
+    W: Wanted,
+{
+    let machine = &options.machine;
+    let KeptFile { bytes, mut kept } = read_kept_file(rt, machine)?;
+    prepare(rt.alloc(), wanted, &mut kept)?;
+    let ToldChange {
+        set,
+        kept: to,
+        answered,
+    } = lead(rt, options, wanted, &kept, (&kept.vars, None))?;
+    let bytes = changed_bytes(rt.alloc(), machine.place, (&bytes, &kept), (set, &to))?;
+    if is_kept && bytes.is_some() {
+        keep_of_file(rt, options, (&kept.vars, &to))?;
+    }
+    Ok(LedFile { bytes, answered })
+}
+
+/// Keeps what was there before a change of the variable file, and what is there after it.
+fn keep_of_file<R: Files<File: OutputFile> + Clock + Eprint + AllocGlobal>(
+    rt: &R,
+    options: &ChangeOptions<'_>,
+    change: (&Vars, &Vars),
+) -> Result<(), Failure> {
+    let machine = &options.machine;
+    let name = name_of_machine(rt, machine, false)?;
+    keep_before(rt, machine, (&name, options.command), change)
 }
 
 /// Makes the change in a set file, which is no machine, or looks what it would be for a dry run: then it isn't locked. Tells on
@@ -392,7 +372,7 @@ where
         return Ok(led_of_set(rt, options, wanted)?.answered);
     }
     let output = lock_place(rt, place)?;
-    let LedSet { bytes, answered } = led_of_set(rt, options, wanted)?;
+    let LedFile { bytes, answered } = led_of_set(rt, options, wanted)?;
     if let Some(bytes) = bytes {
         write(rt, output, &bytes)?;
     }
@@ -400,21 +380,12 @@ where
     Ok(answered)
 }
 
-/// What a change leads to in a set file.
-#[derive(Drop)]
-struct LedSet<A> {
-    /// What the file is to be: `None` if the change changes nothing.
-    bytes: Option<Vec<u8>>,
-    /// What the change answers, and what is told of it.
-    answered: ToldAnswer<A>,
-}
-
 /// What the change leads to in the set file.
 fn led_of_set<R, W>(
     rt: &R,
     options: &ChangeOptions<'_>,
     wanted: &W,
-) -> Result<LedSet<W::Answer>, W::Refusal>
+) -> Result<LedFile<W::Answer>, W::Refusal>
 where
     R: Files + Input + AllocGlobal,
     W: Wanted,
@@ -422,9 +393,13 @@ where
     let place = options.machine.place;
     let KeptFile { bytes, mut kept } = read_kept_set(rt, place)?;
     prepare(rt.alloc(), wanted, &mut kept)?;
-    let Led { to, answered } = led_of(rt, options, wanted, &kept, (&kept.vars, None))?;
-    Ok(LedSet {
-        bytes: changed_set_bytes(rt.alloc(), place, (&bytes, &kept), &to)?,
+    let ToldChange {
+        set,
+        kept: to,
+        answered,
+    } = lead(rt, options, wanted, &kept, (&kept.vars, None))?;
+    Ok(LedFile {
+        bytes: changed_set_bytes(rt.alloc(), place, (&bytes, &kept), (set, &to))?,
         answered,
     })
 }

@@ -12,7 +12,7 @@ use std::alloc::Global;
 use std::rt::Files;
 use uefi_vars::{Vars, boot_changes, write_set};
 use var_places::{changed_variable_file, set_vars};
-use wanted_changes::{MachineWords, set_of};
+use wanted_changes::MachineWords;
 use whole_files::OutputFile;
 
 /// Does what an earlier update of the machine in a variable file has left to do, by the journal at this path. Another machine's
@@ -59,8 +59,8 @@ fn settle_locked<R: Files<File: OutputFile> + Input + Print + Eprint + AllocGlob
     settle(rt.alloc(), &mut kept, &boot).map_err(|error| from_settling(rt.alloc(), machine, error))
 }
 
-/// The bytes of the variable file at this path, which has these and whose machine keeps this, once it keeps the second set:
-/// `None` if that changes nothing.
+/// The bytes of the variable file at this path, which has these and whose machine keeps this, once it keeps what a change leads
+/// to, which is given as a set and as the machine is to keep it: `None` if that changes nothing.
 ///
 /// # Errors
 ///
@@ -69,12 +69,12 @@ pub(crate) fn changed_bytes(
     alloc: Global,
     place: &str,
     (bytes, kept): (&[u8], &KeptVars),
-    to: &Vars,
+    (set, to): (Vars, &Vars),
 ) -> Result<Option<Vec<u8>>, Failure> {
     if boot_changes(alloc, &kept.vars, to)?.is_empty() {
         return Ok(None);
     }
-    let mut set = set_of(alloc, place, to)?;
+    let mut set = set;
     // What stands for a variable that no set can hold isn't to be written over it.
     for name in &kept.left_out {
         set.remove(name.as_str());
@@ -82,22 +82,22 @@ pub(crate) fn changed_bytes(
     Ok(Some(changed_variable_file(alloc, place, bytes, &set, to)?))
 }
 
-/// The bytes of the set file at this path, which has these and of which this would be kept, once it has the second set: `None`
-/// if that changes nothing.
+/// The bytes of the set file at this path, which has these and of which this would be kept, once it has what a change leads to,
+/// which is given as a set and as a machine would keep it: `None` if that changes nothing.
 ///
 /// # Errors
 ///
-/// [`Failure::Refused`] if a variable would have no data, and [`Failure::Memory`] if memory was refused.
+/// [`Failure::Refused`] if the file is damaged, and [`Failure::Memory`] if memory was refused.
 pub(crate) fn changed_set_bytes(
     alloc: Global,
     place: &str,
     (bytes, kept): (&[u8], &KeptVars),
-    to: &Vars,
+    (set, to): (Vars, &Vars),
 ) -> Result<Option<Vec<u8>>, Failure> {
     if boot_changes(alloc, &kept.vars, to)?.is_empty() {
         return Ok(None);
     }
-    let mut set = set_of(alloc, place, to)?;
+    let mut set = set;
     let was = set_vars(alloc, place, bytes)?;
     // What has no room for attributes stays as it is.
     for name in &kept.left_out {

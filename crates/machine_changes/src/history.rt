@@ -62,14 +62,10 @@ impl History<'_, '_> {
         (from, to): (&Vars, &Vars),
     ) -> Result<(), Failure> {
         let alloc = rt.alloc();
-        let record = Record::new(
-            alloc,
-            same_name(alloc, self.machine)?,
-            time_now(rt)?,
-            copies(alloc, command)?,
-            from,
-            to,
-        )?;
+        let time = time_now(rt)?;
+        let machine = same_name(alloc, self.machine)?;
+        let command = copies(alloc, command)?;
+        let record = Record::new(alloc, machine, time, command, from, to)?;
         push(rt, self.state, &record)?;
         Ok(())
     }

@@ -3,10 +3,8 @@
 
 ghost use Rattle.std.specs.Prelude.{◌≢◌, [], IfOk, IfErr};
 ghost use Rattle.uefi_vars.specs.BootChange.{changes_from};
-ghost use Rattle.uefi_vars.specs.Vars.{Variables};
 ghost use Rattle.boot_journal.specs.Cause.{IfRefused};
-ghost use Rattle.machine_changes.specs.KeptFault.{IsUnprepared};
-ghost use Rattle.wanted_changes.specs.declared.told.Told.{Told};
+ghost use Rattle.machine_changes.specs.KeptFault.{IsKeptFault, IsUnprepared, LeadsToChange};
 
 use crate::history::History;
 use boot_journal::{BootId, CallError, CommandError, Machine, Run, UpdateError, command};
@@ -14,33 +12,8 @@ use messages::Failure;
 use std::alloc::Global;
 use std::rt::{Clock, Files};
 use uefi_vars::Vars;
-use wanted_changes::Told;
+use wanted_changes::{Led, Seen, SetChange, Sets, Told, Wanted};
 use whole_files::OutputFile;
-
-/// What is to be told of a run with such an answer. It is made before anything is changed: afterwards a refusal of memory
-/// would tell of a change that was made as if it weren't.
-pub(crate) trait Telling<A> {
-    /// This is told of a run from the one set of variables to the other, which answers so.
-    ghost tells: { Self → Variables → Variables → A → Told → Type 0 };
-
-    /// What is told of a run from the one set of variables to the other, as a machine keeps them, which answers so.
-    ///
-    /// # Errors
-    ///
-    /// [`Failure::Memory`] if memory was refused, and others if it can't be told.
-    fn tell(&self, alloc: Global, from: &Vars, to: &Vars, answer: &A) -> Result<Told, Failure>
-        ensures { IfOk result (tells self.now from.now to.now answer.now) };
-
-    /// What is done right before the change is made, once what is there is kept.
-    ///
-    /// # Errors
-    ///
-    /// [`Failure::Memory`] if memory was refused, and others if it can't be done: it isn't then.
-    fn begin(&self, answer: &A) -> Result<(), Failure>;
-
-    /// What is done if the change had begun so, and is taken back.
-    fn take_back(&self);
-}
 
 /// What a run answers, and what is told of it.
 #[derive(Drop)]
@@ -65,6 +38,17 @@ impl<A: Drop> ToldAnswer<A> {
     }
 }
 
+/// What a change leads to.
+#[derive(Drop)]
+pub(crate) struct ToldChange<A> {
+    /// The variables after it, without attributes.
+    pub(crate) set: Vars,
+    /// The variables after it, as the machine is to keep them.
+    pub(crate) kept: Vars,
+    /// What it answers, and what is told of it.
+    pub(crate) answered: ToldAnswer<A>,
+}
+
 /// Why such a change isn't made of variables.
 #[derive(Debug, Drop)]
 pub(crate) enum KeptFault<F> {
@@ -78,84 +62,137 @@ pub(crate) enum KeptFault<F> {
     Beginning(Failure),
 }
 
-/// The run of a change that is asked for.
+/// A change that is wanted of a machine of which this is known.
 #[derive(Drop)]
-struct KeptRun<'a, 'm, R, Q, T> {
-    /// The run that leads to the change.
-    run: Q,
-    /// What is done before the change is made.
-    preparation: Preparation<'a, 'm, R, T>,
+pub(crate) struct SeenChange<'a, 's, W> {
+    /// The change.
+    pub(crate) wanted: &'a W,
+    /// What is known of the machine.
+    pub(crate) seen: &'s Seen<'s>,
+    /// Whether nothing is changed, and what would be is told.
+    pub(crate) is_coming: bool,
 }
 
-/// What is done before a change is made.
+impl<W: Wanted> SeenChange<'_, '_, W> {
+    /// What the change leads to from these variables. What is told of it is made before anything is changed: afterwards a refusal
+    /// of memory would tell of a change that was made as if it weren't.
+    pub(crate) fn lead(
+        &self,
+        alloc: Global,
+        vars: &Vars,
+    ) -> Result<ToldChange<W::Answer>, CallError<KeptFault<W::Fault>>>
+        ensures done { IfOk result (λ change.
+            W.leads self.now.wanted.now self.now.seen.now vars.now change.kept change.answered.answer) }
+        ensures refused { IfErr result (λ error. IfRefused error (λ fault. IsKeptFault fault
+            (W.refuses self.now.wanted.now self.now.seen.now vars.now)
+            (LeadsToChange (W.leads self.now.wanted.now self.now.seen.now) vars.now))) }
+    {
+        match self.wanted.run(alloc, self.seen, vars) {
+            Ok(led) => {
+                let Led { sets, kept, answer } = led;
+                let Sets { from, to } = sets;
+                let change = SetChange {
+                    from: &from,
+                    to: &to,
+                    is_coming: self.is_coming,
+                };
+                match self.tell(alloc, change, &answer) {
+                    Ok(told) => Ok(ToldChange {
+                        set: to,
+                        kept,
+                        answered: ToldAnswer { answer, told },
+                    }),
+                    Err(error) => Err(error),
+                }
+            }
+            Err(CallError::OutOfMemory) => Err(CallError::OutOfMemory),
+            Err(CallError::Refused(fault)) => Err(CallError::Refused(KeptFault::Run(fault))),
+        }
+    }
+
+    /// What is told of the change from the one set to the other, which answers so.
+    fn tell<F>(
+        &self,
+        alloc: Global,
+        change: SetChange<'_>,
+        answer: &W::Answer,
+    ) -> Result<Told, CallError<KeptFault<F>>>
+        ensures { IfErr result (λ error. IfRefused error (IsUnprepared ⊥)) }
+    {
+        match self.wanted.tell(alloc, self.seen, change, answer) {
+            Ok(told) => Ok(told),
+            Err(Failure::Memory) => Err(CallError::OutOfMemory),
+            Err(failure) => Err(CallError::Refused(KeptFault::Telling(failure))),
+        }
+    }
+}
+
+/// The run of a change that is wanted.
 #[derive(Drop)]
-struct Preparation<'a, 'm, R, T> {
+pub(crate) struct KeptRun<'a, 's, 'm, R, W> {
     /// What reaches the files.
-    rt: &'a R,
+    pub(crate) rt: &'a R,
+    /// The change.
+    pub(crate) change: &'s SeenChange<'a, 's, W>,
     /// Where what was there before is kept.
-    history: History<'a, 'm>,
-    /// What is told of the change.
-    telling: &'a T,
+    pub(crate) history: History<'a, 'm>,
 }
 
-impl<R, Q, T> Run for KeptRun<'_, '_, R, Q, T>
+impl<R, W> Run for KeptRun<'_, '_, '_, R, W>
 where
     R: Files<File: OutputFile> + Clock + AllocGlobal,
-    Q: Run,
-    T: Telling<Q::Answer>,
+    W: Wanted,
 {
     ghost use Rattle.machine_changes.specs.KeptFault.{IsKeptFault, LeadsToChange};
 
-    type Answer = ToldAnswer<Q::Answer>;
+    type Answer = ToldAnswer<W::Answer>;
 
-    type Fault = KeptFault<Q::Fault>;
+    type Fault = KeptFault<W::Fault>;
 
-    ghost leads = { λ kept from to answered. Q.leads kept.run from to answered.answer
-        × T.tells kept.preparation.telling.now from to answered.answer answered.told };
+    ghost leads = { λ run from to answered.
+        W.leads run.change.now.wanted.now run.change.now.seen.now from to answered.answer };
 
-    ghost refuses = { λ kept from fault.
-        IsKeptFault fault (Q.refuses kept.run from) (LeadsToChange (Q.leads kept.run) from) };
+    ghost refuses = { λ run from fault. IsKeptFault fault
+        (W.refuses run.change.now.wanted.now run.change.now.seen.now from)
+        (LeadsToChange (W.leads run.change.now.wanted.now run.change.now.seen.now) from) };
 
     fn run(
         self,
         alloc: Global,
         vars: &Vars,
-    ) -> Result<(Vars, ToldAnswer<Q::Answer>), CallError<KeptFault<Q::Fault>>> {
-        let KeptRun { run, preparation } = self;
-        match run.run(alloc, vars) {
-            Ok((to, answer)) => match preparation.prepare(alloc, vars, &to, &answer) {
-                Ok(told) => Ok((to, ToldAnswer { answer, told })),
+    ) -> Result<(Vars, ToldAnswer<W::Answer>), CallError<KeptFault<W::Fault>>> {
+        match self.change.lead(alloc, vars) {
+            Ok(
+                ToldChange {
+                    set: _,
+                    kept,
+                    answered,
+                },
+            ) => match self.prepare(alloc, vars, &kept, &answered.answer) {
+                Ok(()) => Ok((kept, answered)),
                 Err(error) => Err(error),
             },
-            Err(CallError::OutOfMemory) => Err(CallError::OutOfMemory),
-            Err(CallError::Refused(fault)) => Err(CallError::Refused(KeptFault::Run(fault))),
+            Err(error) => Err(error),
         }
     }
 }
 
-impl<R, T> Preparation<'_, '_, R, T>
+impl<R, W> KeptRun<'_, '_, '_, R, W>
 where
     R: Files<File: OutputFile> + Clock + AllocGlobal,
+    W: Wanted,
 {
-    /// Makes what is told of a change that is yet to be made, keeps what is there before it, and then does what is to be done
-    /// right before it.
-    fn prepare<A, F>(
+    /// Keeps what is there before a change that is yet to be made and answers so, and then does what is to be done right before
+    /// it.
+    fn prepare<F>(
         &self,
         alloc: Global,
         from: &Vars,
         to: &Vars,
-        answer: &A,
-    ) -> Result<Told, CallError<KeptFault<F>>>
-    where
-        T: Telling<A>,
-        ensures told { IfOk result (T.tells self.now.telling.now from.now to.now answer.now) }
-        ensures refused { IfErr result (λ error. IfRefused error (IsUnprepared (changes_from from.now to.now ≢ []))) }
+        answer: &W::Answer,
+    ) -> Result<(), CallError<KeptFault<F>>>
+        ensures { IfErr result (λ error. IfRefused error (IsUnprepared (changes_from from.now to.now ≢ []))) }
     {
-        let told = match self.telling.tell(alloc, from, to, answer) {
-            Ok(told) => told,
-            Err(Failure::Memory) => return Err(CallError::OutOfMemory),
-            Err(failure) => return Err(CallError::Refused(KeptFault::Telling(failure))),
-        };
         match self.history.keep(self.rt, from, to) {
             Ok(()) => {}
             Err(CallError::OutOfMemory) => return Err(CallError::OutOfMemory),
@@ -163,15 +200,15 @@ where
                 return Err(CallError::Refused(KeptFault::History(failure)));
             }
         }
-        match self.telling.begin(answer) {
-            Ok(()) => Ok(told),
+        match self.change.wanted.begin(answer) {
+            Ok(()) => Ok(()),
             Err(Failure::Memory) => Err(CallError::OutOfMemory),
             Err(failure) => Err(CallError::Refused(KeptFault::Beginning(failure))),
         }
     }
 }
 
-/// Does what is left of earlier updates of a machine, runs something over its variables, and makes what that leads to, as
+/// Does what is left of earlier updates of a machine, runs a change over its variables, and makes what that leads to, as
 /// [`command`] does; what is told of the change is made before it, and what is there is kept, so that the change can be
 /// undone; then it is done what is to be right before the change, which is taken back if the change is. The identity is that of
 /// the machine's start.
@@ -180,32 +217,21 @@ where
 ///
 /// Those of [`command`]: [`CommandError::Run`] also if what is to be told can't be, what is there can't be kept, or what is to be
 /// done right before the change can't be, and nothing was changed then.
-pub(crate) fn kept_command<R, M, Q, T>(
-    rt: &R,
+pub(crate) fn kept_command<R, M, W>(
     machine: &mut M,
-    run: Q,
-    telling: &T,
-    history: History<'_, '_>,
+    run: KeptRun<'_, '_, '_, R, W>,
     boot: &BootId,
-) -> Result<ToldAnswer<Q::Answer>, CommandError<M::Refusal, KeptFault<Q::Fault>>>
+) -> Result<ToldAnswer<W::Answer>, CommandError<M::Refusal, KeptFault<W::Fault>>>
 where
     R: Files<File: OutputFile> + Clock + AllocGlobal,
     M: Machine,
-    Q: Run,
-    T: Telling<Q::Answer>,
+    W: Wanted,
 {
-    let run = KeptRun {
-        run,
-        preparation: Preparation {
-            rt,
-            history,
-            telling,
-        },
-    };
+    let (rt, change, history) = (run.rt, run.change, run.history);
     let ended = command(rt.alloc(), machine, run, boot);
     if let Err(CommandError::Updating(UpdateError::TakenBack(_))) = &ended {
         forget_unmade(rt, machine, history);
-        telling.take_back();
+        change.wanted.take_back();
     }
     ended
 }

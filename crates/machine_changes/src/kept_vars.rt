@@ -1,5 +1,6 @@
 //! What a machine keeps of its variables: of those of the boot manager the attributes too.
 
+use crate::history::copies;
 use boot_journal::{AttributesFault, with_attributes};
 use messages::Failure;
 use std::alloc::{AllocError, Global};
@@ -20,6 +21,11 @@ pub(crate) struct KeptVars {
 }
 
 impl KeptVars {
+    /// The names of the variables that no set can hold, as a list of its own. This fails only when out of memory.
+    pub(crate) fn copy_left_out(&self, alloc: Global) -> Result<Vec<String>, Failure> {
+        Ok(copies(alloc, &self.left_out)?)
+    }
+
     /// Lets those variables go that no set can hold, and that this set has: they are to be replaced, whatever they have.
     pub(crate) fn let_go(&mut self, set: &Vars) {
         for name in &self.left_out {

@@ -1,10 +1,9 @@
 //! The machine in a place, with its journal.
 
 use crate::boot_identity::boot_id;
-use crate::history::copies;
 use crate::kept_vars::{KeptVars, kept_of};
 use crate::moves::Moves;
-use crate::owner::{identity_of, own_journal};
+use crate::owner::{Identity, identity_of, own_journal};
 use crate::state_folder::{StoredJournal, stored_with_notes};
 use crate::storage::{Place, PlaceStorage};
 use crate::told::tell_of_settling;
@@ -19,7 +18,7 @@ use var_places::{
     FileKind, PlaceVars, STANDARD, check_damage, file_kind, is_folder, lock_place_file,
     lock_place_folder, name_of, no_place, read_folder, read_variables, set_vars, variable_file,
 };
-use wanted_changes::MachineWords;
+use wanted_changes::{KeptNotes, MachineWords};
 use whole_files::OutputFile;
 
 /// A machine in a place, with its journal.
@@ -30,28 +29,6 @@ pub(crate) type Machine<'a, R> = Recorded<PlaceStorage<'a, R>>;
 pub(crate) struct OpenedPlace<F> {
     pub(crate) place: Place<F>,
     pub(crate) kept: KeptVars,
-}
-
-impl<F> OpenedPlace<F> {
-    /// The names of the variables of the boot manager that are there, and that no set can hold.
-    pub(crate) fn left_out(&self) -> &[String] {
-        &self.kept.left_out
-    }
-
-    /// The same names, which are kept when the place is given away. This fails only when out of memory.
-    pub(crate) fn copy_left_out(&self, alloc: Global) -> Result<Vec<String>, Failure> {
-        Ok(copies(alloc, &self.kept.left_out)?)
-    }
-
-    /// Lets those of them go that this set has, as of [`KeptVars::let_go`].
-    pub(crate) fn let_go(&mut self, set: &Vars) {
-        self.kept.let_go(set);
-    }
-
-    /// Whether it is a folder.
-    pub(crate) fn is_folder(&self) -> bool {
-        self.kept.is_folder
-    }
 }
 
 /// The folder or the variable file at the path of the words, locked: another state folder doesn't keep its changes from this
@@ -122,9 +99,11 @@ fn storage_of<'a, R: Files<File: OutputFile> + AllocGlobal>(
     opened: OpenedPlace<R::File>,
     journal_path: &str,
 ) -> Result<OpenedStorage<'a, R>, Failure> {
-    let identity = identity_of(rt, words, opened.kept.is_folder)?;
-    let journal = String::from_str(rt.alloc(), journal_path)?;
-    let notes = Rc::new(rt.alloc(), RefCell::new(None))?;
+    let BesidePlace {
+        identity,
+        journal,
+        notes,
+    } = beside_place(rt, words, opened.kept.is_folder, journal_path)?;
     let OpenedPlace { place, kept } = opened;
     Ok(OpenedStorage {
         storage: PlaceStorage {
@@ -137,6 +116,31 @@ fn storage_of<'a, R: Files<File: OutputFile> + AllocGlobal>(
             begun: Vec::new(rt.alloc()),
         },
         vars: kept.vars,
+    })
+}
+
+/// What storage has beside its place.
+#[derive(Drop)]
+struct BesidePlace {
+    /// What its machine is called.
+    identity: Identity,
+    /// The path of the journal.
+    journal: String,
+    /// What is kept beside the journal.
+    notes: Rc<KeptNotes>,
+}
+
+/// What storage has beside its place, before the journal is read.
+fn beside_place<R: Files + AllocGlobal>(
+    rt: &R,
+    words: &MachineWords<'_>,
+    is_folder: bool,
+    journal_path: &str,
+) -> Result<BesidePlace, Failure> {
+    Ok(BesidePlace {
+        identity: identity_of(rt, words, is_folder)?,
+        journal: String::from_str(rt.alloc(), journal_path)?,
+        notes: Rc::new(rt.alloc(), RefCell::new(None))?,
     })
 }
 

@@ -49,26 +49,47 @@ pub(crate) fn settled_machine<R: Files + Eprint + AllocGlobal>(
     words: &MachineWords<'_>,
     kept: &KeptVars,
 ) -> Result<SettledMachine, Failure> {
+    let TakenJournal { journal, notes } = taken_journal(rt, words, kept)?;
+    Ok(SettledMachine {
+        settled: settled_vars(rt, words, kept, &journal)?,
+        notes,
+    })
+}
+
+/// A machine's own journal, with what is kept beside it: `None` also if the journal was another machine's.
+#[derive(Drop)]
+struct TakenJournal {
+    journal: Journal,
+    notes: Option<Notes>,
+}
+
+/// The journal that is stored, as the machine's own. Its file isn't replaced.
+fn taken_journal<R: Files + Eprint + AllocGlobal>(
+    rt: &R,
+    words: &MachineWords<'_>,
+    kept: &KeptVars,
+) -> Result<TakenJournal, Failure> {
     let alloc = rt.alloc();
     let path = journal_path(alloc, words.state)?;
     let path = path.as_path().as_str();
-    let (file, notes) = match readable_journal(rt, path)? {
-        Some(StoredJournal { notes, file }) => (Some(file), notes),
-        None => (None, None),
-    };
+    let stored = readable_journal(rt, path)?;
     let identity = identity_of(rt, words, kept.is_folder)?;
     let owner = Owner {
         words,
         identity: &identity,
         path,
     };
+    let (file, notes) = match stored {
+        Some(StoredJournal { notes, file }) => (Some(file), notes),
+        None => (None, None),
+    };
     let OwnJournal {
         journal,
         is_unnamed: _,
         was_others,
     } = owner.take(alloc, file, &kept.vars)?;
-    Ok(SettledMachine {
-        settled: settled_vars(rt, words, kept, &journal)?,
+    Ok(TakenJournal {
+        journal,
         notes: if was_others { None } else { notes },
     })
 }

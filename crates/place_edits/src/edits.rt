@@ -4,12 +4,12 @@ use crate::edit_remarks::told_of;
 use crate::fault_words::from_edit_run_in;
 use crate::left_out::check_edit;
 use crate::voice::Voice;
-use boot_edits::{Edit, EditAnswer, EditRun, EditRunFault};
-use boot_journal::{CallError, Run};
+use boot_edits::{Edit, EditAnswer, EditRun, EditRunFault, EditedVars};
+use boot_journal::CallError;
 use messages::Failure;
 use std::alloc::Global;
 use uefi_vars::{EntryFamily, Vars};
-use wanted_changes::{Seen, SetChange, Told, Wanted};
+use wanted_changes::{Led, Seen, SetChange, Sets, Told, Wanted};
 
 /// How an edit is printed: the name of an entry that is added, and then what differs, as `diff` has it.
 #[derive(Clone, Copy, Debug, PartialEq, Eq)]
@@ -74,8 +74,19 @@ impl Wanted for WantedEdit<'_> {
         alloc: Global,
         _seen: &Seen<'_>,
         vars: &Vars,
-    ) -> Result<(Vars, EditAnswer), CallError<EditRunFault>> {
-        (EditRun { edit: self.edit }).run(alloc, vars)
+    ) -> Result<Led<EditAnswer>, CallError<EditRunFault>> {
+        let run = EditRun { edit: self.edit };
+        let EditedVars {
+            from,
+            to,
+            kept,
+            answer,
+        } = run.make(alloc, vars)?;
+        Ok(Led {
+            sets: Sets { from, to },
+            kept,
+            answer,
+        })
     }
 
     fn tell(

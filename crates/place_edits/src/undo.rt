@@ -9,7 +9,7 @@ use messages::{Failure, note, print};
 use std::alloc::Global;
 use std::rt::Files;
 use uefi_vars::Vars;
-use wanted_changes::{MachineWords, Remarks, Seen, SetChange, Told, Wanted, set_of};
+use wanted_changes::{Led, MachineWords, Remarks, Seen, SetChange, Told, Wanted, set_of, sets_of};
 use whole_files::OutputFile;
 
 /// The words of an undoing.
@@ -70,7 +70,7 @@ impl<R: Files<File: OutputFile> + Print + Eprint + AllocGlobal> Wanted
         alloc: Global,
         seen: &Seen<'_>,
         vars: &Vars,
-    ) -> Result<(Vars, Undone), CallError<UndoFault>> {
+    ) -> Result<Led<Undone>, CallError<UndoFault>> {
         let words = self.words;
         let changes = match records_to_undo(self.rt, words.machine.state, seen.machine, vars) {
             Ok(changes) => changes,
@@ -82,7 +82,17 @@ impl<R: Files<File: OutputFile> + Print + Eprint + AllocGlobal> Wanted
             changes: &changes,
             seen,
         };
-        run.run(alloc, vars)
+        match run.run(alloc, vars) {
+            Ok((kept, undone)) => match sets_of(alloc, words.machine.place, vars, &kept) {
+                Ok(sets) => Ok(Led {
+                    sets,
+                    kept,
+                    answer: undone,
+                }),
+                Err(failure) => Err(call_error(failure)),
+            },
+            Err(error) => Err(error),
+        }
     }
 
     fn tell(

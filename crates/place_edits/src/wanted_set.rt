@@ -15,7 +15,7 @@ use change_records::or_timeout_of;
 use messages::Failure;
 use std::alloc::{AllocError, Global};
 use uefi_vars::{KEEP_STATE, Vars, boot_changes};
-use wanted_changes::{Remarks, Seen, SetChange, Told, Wanted};
+use wanted_changes::{Led, Remarks, Seen, SetChange, Told, Wanted, sets_of};
 
 /// The boot variables of a set, wanted of a machine, whose Timeout stays if the set has none. Entries that would have to be
 /// stored in a folder and that firmware refuses are left out, which standard error is told. What is printed is each change, and
@@ -69,12 +69,19 @@ impl Wanted for WantedSet<'_> {
         alloc: Global,
         seen: &Seen<'_>,
         vars: &Vars,
-    ) -> Result<(Vars, Takeable), CallError<Failure>> {
+    ) -> Result<Led<Takeable>, CallError<Failure>> {
         let wanted = self.wanted(alloc, vars)?;
         let brought = brought(alloc, seen, vars, wanted)?;
         self.check_brought(alloc, seen, vars, &brought.vars)?;
-        let to = restored(alloc, vars, &brought.vars)?;
-        Ok((to, brought))
+        let kept = restored(alloc, vars, &brought.vars)?;
+        match sets_of(alloc, self.place, vars, &kept) {
+            Ok(sets) => Ok(Led {
+                sets,
+                kept,
+                answer: brought,
+            }),
+            Err(failure) => Err(call_error(failure)),
+        }
     }
 
     fn tell(

@@ -5,16 +5,16 @@ ghost use Rattle.profile_changes.specs.Changed.{has_changes};
 
 use crate::fault_words::from_profile_run;
 use crate::telling::told_text;
-use boot_journal::{CallError, Run};
+use boot_journal::CallError;
 use boot_profiles::{
-    Profile, ProfileNext, ProfileOrder, ProfileRun, ProfileRunFault, ProfileTimeout,
+    AppliedProfile, Profile, ProfileNext, ProfileOrder, ProfileRun, ProfileRunFault, ProfileTimeout,
 };
 use messages::Failure;
 use place_edits::remark_repairs;
 use profile_files::WrittenProfile;
 use std::alloc::{AllocError, Global};
 use uefi_vars::{BOOT_NEXT, BOOT_ORDER, TIMEOUT, Vars, boot_changes};
-use wanted_changes::{LEFT_OUT, Remarks, Seen, SetChange, Told, Wanted};
+use wanted_changes::{LEFT_OUT, Led, Remarks, Seen, SetChange, Sets, Told, Wanted};
 
 /// A profile that is wanted of a machine. It answers whether something is changed.
 #[derive(Clone, Copy)]
@@ -67,17 +67,17 @@ impl Wanted for WantedProfile<'_> {
         alloc: Global,
         _seen: &Seen<'_>,
         vars: &Vars,
-    ) -> Result<(Vars, bool), CallError<ProfileRunFault>> {
+    ) -> Result<Led<bool>, CallError<ProfileRunFault>> {
         let run = ProfileRun {
             profile: self.profile,
         };
-        match run.run(alloc, vars) {
-            Ok((to, ())) => {
-                let is_changed = is_changed(alloc, vars, &to)?;
-                Ok((to, is_changed))
-            }
-            Err(error) => Err(error),
-        }
+        let AppliedProfile { from, to, kept } = run.make(alloc, vars)?;
+        let is_changed = is_changed(alloc, vars, &kept)?;
+        Ok(Led {
+            sets: Sets { from, to },
+            kept,
+            answer: is_changed,
+        })
     }
 
     fn tell(

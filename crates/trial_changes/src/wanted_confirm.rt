@@ -1,7 +1,9 @@
 //! What is to follow from trials.
 
-ghost use Rattle.std.specs.Prelude.{IfOk, IfErr};
+ghost use Rattle.std.specs.Prelude.{◌≡◌, ◌≢◌, IfOk, IfErr};
 ghost use Rattle.boot_journal.specs.Cause.{IfRefused};
+ghost use Rattle.messages.specs.declared.failure.Failure.{Failure};
+ghost use Rattle.trial_changes.specs.declared.wanted_confirm.ConfirmFault.{ConfirmFault};
 ghost use Rattle.trial_changes.specs.Faults.{IsConfirmRefusal};
 ghost use Rattle.trial_changes.specs.Following.{IsFollowing};
 
@@ -16,7 +18,7 @@ use place_edits::{EditForm, WantedEdit, from_edit_run};
 use std::alloc::Global;
 use std::rt::Files;
 use uefi_vars::Vars;
-use wanted_changes::{MachineWords, Remarks, Seen, SetChange, Told, Wanted};
+use wanted_changes::{Led, MachineWords, Remarks, Seen, SetChange, Told, Wanted, sets_of};
 use whole_files::OutputFile;
 
 /// What is to follow from the trial that is kept in a machine's state folder, if one is. If the entry is confirmed, the trial
@@ -49,6 +51,34 @@ pub enum ConfirmFault {
     Run(EditRunFault),
     /// It can't be told whether one is kept. The failure is never [`Failure::Memory`].
     Failure(Failure),
+}
+
+/// What it is to a run that something failed.
+fn call_error(failure: Failure) -> CallError<ConfirmFault>
+    ensures { IfRefused result (λ fault. (fault ≡ ConfirmFault.Failure failure) × (failure ≢ Failure.Memory)) }
+{
+    match failure {
+        Failure::Memory => CallError::OutOfMemory,
+        failure => CallError::Refused(ConfirmFault::Failure(failure)),
+    }
+}
+
+impl<R: Files<File: OutputFile> + Eprint + AllocGlobal> WantedConfirm<'_, '_, R> {
+    /// What follows from the trial that is kept, if one is, and what came of it.
+    fn follow(
+        &self,
+        alloc: Global,
+        vars: &Vars,
+    ) -> Result<(Vars, Option<Confirmation>), CallError<ConfirmFault>>
+        ensures done { IfOk result (λ done. IsFollowing self.now.start.now vars.now done.0 done.1) }
+        ensures refused { IfErr result (λ error. IfRefused error (IsConfirmRefusal self.now.start.now vars.now)) }
+    {
+        match stored_trial(self.rt, self.machine.state) {
+            Ok(None) => Ok((vars.copy(alloc)?, None)),
+            Ok(Some(trial)) => follow(alloc, trial, self.start, vars),
+            Err(failure) => Err(call_error(failure)),
+        }
+    }
 }
 
 impl<R: Files<File: OutputFile> + Eprint + AllocGlobal> Wanted for WantedConfirm<'_, '_, R> {
@@ -85,12 +115,17 @@ impl<R: Files<File: OutputFile> + Eprint + AllocGlobal> Wanted for WantedConfirm
         alloc: Global,
         _seen: &Seen<'_>,
         vars: &Vars,
-    ) -> Result<(Vars, Option<Confirmation>), CallError<ConfirmFault>> {
-        match stored_trial(self.rt, self.machine.state) {
-            Ok(None) => Ok((vars.copy(alloc)?, None)),
-            Ok(Some(trial)) => follow(alloc, trial, self.start, vars),
-            Err(Failure::Memory) => Err(CallError::OutOfMemory),
-            Err(failure) => Err(CallError::Refused(ConfirmFault::Failure(failure))),
+    ) -> Result<Led<Option<Confirmation>>, CallError<ConfirmFault>> {
+        match self.follow(alloc, vars) {
+            Ok((kept, confirmation)) => match sets_of(alloc, self.machine.place, vars, &kept) {
+                Ok(sets) => Ok(Led {
+                    sets,
+                    kept,
+                    answer: confirmation,
+                }),
+                Err(failure) => Err(call_error(failure)),
+            },
+            Err(error) => Err(error),
         }
     }
 

@@ -1,5 +1,10 @@
 //! Trials that are to begin.
 
+ghost use Rattle.std.specs.Prelude.{◌≡◌, ◌≢◌};
+ghost use Rattle.boot_journal.specs.Cause.{IfRefused};
+ghost use Rattle.messages.specs.declared.failure.Failure.{Failure};
+ghost use Rattle.trial_changes.specs.declared.wanted_try.TryFault.{TryFault};
+
 use crate::telling::{TrialForm, trial_text};
 use crate::trial_file::{forget_trial, store_trial, stored_trial};
 use boot_edits::{Edit, EditAnswer, EditRunFault};
@@ -11,7 +16,7 @@ use place_edits::{EditForm, WantedEdit, from_edit_run};
 use std::alloc::Global;
 use std::rt::Files;
 use uefi_vars::{EntryName, Vars};
-use wanted_changes::{MachineWords, Remarks, Seen, SetChange, Told, Wanted};
+use wanted_changes::{Led, MachineWords, Remarks, Seen, SetChange, Told, Wanted, sets_of};
 use whole_files::OutputFile;
 
 /// A trial that is to begin of a machine's entry. It is kept in the state folder before a variable is changed.
@@ -38,6 +43,16 @@ pub enum TryFault {
     Run(EditRunFault),
     /// It can't be told whether one is kept. The failure is never [`Failure::Memory`].
     Failure(Failure),
+}
+
+/// What it is to a run that something failed.
+fn call_error(failure: Failure) -> CallError<TryFault>
+    ensures { IfRefused result (λ fault. (fault ≡ TryFault.Failure failure) × (failure ≢ Failure.Memory)) }
+{
+    match failure {
+        Failure::Memory => CallError::OutOfMemory,
+        failure => CallError::Refused(TryFault::Failure(failure)),
+    }
 }
 
 impl<R> WantedTry<'_, '_, R> {
@@ -119,19 +134,25 @@ impl<R: Files<File: OutputFile> + Eprint + AllocGlobal> Wanted for WantedTry<'_,
         alloc: Global,
         _seen: &Seen<'_>,
         vars: &Vars,
-    ) -> Result<(Vars, BegunTrial), CallError<TryFault>> {
+    ) -> Result<Led<BegunTrial>, CallError<TryFault>> {
         match stored_trial(self.rt, self.machine.state) {
             Ok(None) => {}
             Ok(Some(trial)) => return Err(CallError::Refused(TryFault::Kept(trial.entry()))),
-            Err(Failure::Memory) => return Err(CallError::OutOfMemory),
-            Err(failure) => return Err(CallError::Refused(TryFault::Failure(failure))),
+            Err(failure) => return Err(call_error(failure)),
         }
         let run = BeginRun {
             target: self.target,
             start: self.start,
         };
         match run.run(alloc, vars) {
-            Ok(done) => Ok(done),
+            Ok((kept, begun)) => match sets_of(alloc, self.machine.place, vars, &kept) {
+                Ok(sets) => Ok(Led {
+                    sets,
+                    kept,
+                    answer: begun,
+                }),
+                Err(failure) => Err(call_error(failure)),
+            },
             Err(CallError::OutOfMemory) => Err(CallError::OutOfMemory),
             Err(CallError::Refused(fault)) => Err(CallError::Refused(TryFault::Run(fault))),
         }

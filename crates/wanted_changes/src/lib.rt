@@ -1,9 +1,9 @@
 //! Changes that are wanted of a machine's boot variables, apart from how a machine is changed (UEFI specification, version
 //! 2.10, chapter 3).
 //!
-//! A [`Wanted`] says what is to become of the variables, and what is [`Told`] of that; [`Seen`] is what it may know of the
-//! machine beside them. [`set_of`] takes the attributes off what a machine keeps, and [`leave_out`] takes out what no set
-//! can hold. [`MachineWords`] names a machine's place, and the folder with its journal, and [`ProfileWords`] a profile.
+//! A [`Wanted`] says what is to become of the variables, [`Led`] what it leads to, and [`Told`] what is told of that; [`Seen`]
+//! is what it may know of the machine beside them. [`set_of`] takes the attributes off what a machine keeps, and [`leave_out`]
+//! takes out what no set can hold. [`MachineWords`] names a machine's place, and the folder with its journal, and [`ProfileWords`] a profile.
 #![tactic(auto)]
 
 mod kept_notes;
@@ -18,6 +18,6 @@ pub use kept_notes::{KeptNotes, digits_of, identity_digits, journal_identity};
 pub use left_out::{LEFT_OUT, is_one_of, leave_out};
 pub use machine_words::MachineWords;
 pub use profile_words::ProfileWords;
-pub use sets::{SetChange, set_of};
+pub use sets::{SetChange, Sets, set_of, sets_of};
 pub use told::{Remarks, Told};
-pub use wanted::{Seen, Wanted};
+pub use wanted::{Led, Seen, Wanted};

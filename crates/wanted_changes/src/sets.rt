@@ -1,9 +1,21 @@
 //! Sets, and what a machine keeps: the same with attributes.
 
+ghost use Rattle.std.specs.Prelude.{◌≡◌, IfOk};
+ghost use Rattle.boot_journal.specs.Attributes.{data_of};
+
 use boot_journal::{AttributesFault, without_attributes};
 use messages::Failure;
 use std::alloc::Global;
 use uefi_vars::Vars;
+
+/// The sets before and after a change of a machine's variables: without attributes.
+#[derive(Drop)]
+pub struct Sets {
+    /// The variables before it.
+    pub from: Vars,
+    /// The variables after it.
+    pub to: Vars,
+}
 
 /// A change of a machine's variables, as sets, which have no attributes.
 #[derive(Clone, Copy)]
@@ -21,10 +33,27 @@ pub struct SetChange<'a> {
 /// # Errors
 ///
 /// [`Failure::Refused`] if something is kept that has no data, and [`Failure::Memory`] if memory was refused.
-pub fn set_of(alloc: Global, place: &str, kept: &Vars) -> Result<Vars, Failure> {
+pub fn set_of(alloc: Global, place: &str, kept: &Vars) -> Result<Vars, Failure>
+    ensures { IfOk result (λ set. set ≡ data_of kept.now) }
+{
     match without_attributes(alloc, kept) {
         Ok(set) => Ok(set),
         Err(AttributesFault::OutOfMemory) => Err(Failure::Memory),
         Err(fault) => Err(Failure::from_fault(alloc, place, fault)),
     }
+}
+
+/// The sets of what the machine in the place of this name keeps before and after a change.
+///
+/// # Errors
+///
+/// As of [`set_of`].
+pub fn sets_of(alloc: Global, place: &str, from: &Vars, to: &Vars) -> Result<Sets, Failure>
+    ensures from { IfOk result (λ sets. sets.from ≡ data_of from.now) }
+    ensures to { IfOk result (λ sets. sets.to ≡ data_of to.now) }
+{
+    Ok(Sets {
+        from: set_of(alloc, place, from)?,
+        to: set_of(alloc, place, to)?,
+    })
 }

@@ -1,12 +1,13 @@
 //! What is wanted of a machine.
 
-ghost use Rattle.std.specs.Prelude.{IfOk, IfErr};
+ghost use Rattle.std.specs.Prelude.{◌≡◌, IfOk, IfErr};
 ghost use Rattle.uefi_vars.specs.Vars.{Variables};
+ghost use Rattle.boot_journal.specs.Attributes.{data_of};
 ghost use Rattle.boot_journal.specs.Cause.{IfRefused};
 ghost use Rattle.wanted_changes.specs.declared.wanted.Seen.{Seen};
 
 use crate::kept_notes::KeptNotes;
-use crate::sets::SetChange;
+use crate::sets::{SetChange, Sets};
 use crate::told::Told;
 use boot_journal::CallError;
 use boot_notes::IDENTITY_LEN;
@@ -30,7 +31,18 @@ pub struct Seen<'a> {
     pub notes: &'a KeptNotes,
 }
 
-/// A change that is wanted of a machine. Its variables are as a machine keeps them, with attributes, but for what is told.
+/// What a change leads to.
+#[derive(Drop)]
+pub struct Led<A> {
+    /// The variables before it and after it, without attributes.
+    pub sets: Sets,
+    /// The variables after it, as the machine is to keep them.
+    pub kept: Vars,
+    /// What the change answers.
+    pub answer: A,
+}
+
+/// A change that is wanted of a machine.
 pub trait Wanted {
     /// What it answers.
     type Answer: Drop;
@@ -61,7 +73,7 @@ pub trait Wanted {
     /// with an identity are begun beside the journal if there are none.
     fn has_requests(&self) -> bool;
 
-    /// What it leads to from these variables, and its answer.
+    /// What it leads to from these variables, which are as a machine keeps them, with attributes.
     ///
     /// # Errors
     ///
@@ -71,8 +83,10 @@ pub trait Wanted {
         alloc: Global,
         seen: &Seen<'_>,
         vars: &Vars,
-    ) -> Result<(Vars, Self::Answer), CallError<Self::Fault>>
-        ensures done { IfOk result (λ done. leads self.now seen.now vars.now done.0 done.1) }
+    ) -> Result<Led<Self::Answer>, CallError<Self::Fault>>
+        ensures done { IfOk result (λ led. leads self.now seen.now vars.now led.kept led.answer) }
+        ensures from { IfOk result (λ led. led.sets.from ≡ data_of vars.now) }
+        ensures to { IfOk result (λ led. led.sets.to ≡ data_of led.kept) }
         ensures refused { IfErr result (λ error. IfRefused error (refuses self.now seen.now vars.now)) };
 
     /// What is told of it, if it leads from the one set to the other and answers so. The sets have no attributes.

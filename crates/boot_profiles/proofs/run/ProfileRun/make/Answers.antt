@@ -1,0 +1,32 @@
+use Rattle.std.proofs.Common.{sym, ap, subst, ◌∙◌}
+use Rattle.std.proofs.lemmas.Result.{err_from_is_err_and}
+use Rattle.uefi_vars.specs.Vars.{Variables}
+use Rattle.boot_journal.specs.Attributes.{data_of}
+use Rattle.boot_edits.proofs.Running.{refused_weaker}
+use Rattle.boot_profiles.specs.Applied.{IsApplied}
+use Rattle.boot_profiles.specs.Run.{IsRunFault}
+use Rattle.boot_profiles.proofs.run.ProfileRun.make.Goals as goal
+
+pub returns-clause-applied : goal.returns-clause-applied
+returns-clause-applied c =
+    let profile = c.args.self.now.profile.now in
+    record {
+      set = c.in_ok-to.to;
+      applied = subst (λ (set : Variables). IsApplied profile set c.in_ok-to.to) c.in_ok-from.ensures.set c.in_ok-to.ensures.done;
+      is = c.in_ok-kept.ensures.kept;
+    }
+
+pub returns-clause-to : goal.returns-clause-to
+returns-clause-to c =
+    sym (c.attributes_and_data_are_what_is_kept.ensures.set c.args.vars.now c.in_ok-to.to) ∙ ap data_of (sym c.in_ok-kept.ensures.kept)
+
+pub returns-in_err-kept-clause-refused : goal.returns-in_err-kept-clause-refused
+returns-in_err-kept-clause-refused c =
+    let profile = c.args.self.now.profile.now in
+    let p = err_from_is_err_and c.from_residual-in_err-kept.result c.from_residual-in_err-kept.ensures.1 in
+    rw (p.1, p.2)
+    (refused_weaker c.in_err-kept.field-0.0 _ _ (λ f is. subst (IsRunFault profile c.args.vars.now) (sym is.0) (record {
+      set = c.in_ok-to.to;
+      applied = subst (λ (set : Variables). IsApplied profile set c.in_ok-to.to) c.in_ok-from.ensures.set c.in_ok-to.ensures.done;
+      long = is.1;
+    })) c.in_err-kept.ensures.refused)
