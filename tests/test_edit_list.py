@@ -27,6 +27,10 @@ class SmallRepository(unittest.TestCase):
         self.addCleanup(folder.cleanup)
         self.root = Path(folder.name)
         (self.root / "crates.txt").write_text("low:\nhigh: low\n", encoding="utf-8")
+        for crate in ("low", "high"):
+            source = self.root / "crates" / crate / "src/lib.rt"
+            source.parent.mkdir(parents=True)
+            source.write_text("1\n", encoding="utf-8")
         self.write("crates/low/must-fail/b", f"# wrong: one is two\n# refused at: `ok`\n{PAIR}")
         self.write("crates/low/must-fail/a", f"# wrong: none is two\n{PAIR}")
         self.write("bench/edits/low/0", f"# wrong: two is one\n{PAIR}")
@@ -66,15 +70,32 @@ class SmallRepository(unittest.TestCase):
             self.assertEqual(status, 1)
             self.assertEqual(lines[0], "high c, in the gate: ITS FILE DOES NOT SAY")
 
+    def test_what_does_not_fit(self) -> None:
+        for text, why in (
+            ("file: src/lib.rt\nold: 2\nnew: 1\n", "2 is in src/lib.rt 0 times"),
+            (f"{PAIR}old: 1\nnew: 3\n", "1 is in src/lib.rt 0 times"),
+            ("file: src/main.rt\nold: 1\nnew: 2\n", "there is no file src/main.rt"),
+            ("old: 1\nnew: 2\n", "a new text has no file and no old text before it"),
+            ("", "it names no file"),
+        ):
+            self.write("bench/edits/high/c", f"# wrong: one\n{text}")
+            status, lines = self.told("high")
+            self.assertEqual((status, lines[1]), (1, f"    IT DOES NOT FIT: {why}"))
+
+    def test_pairs_are_made_in_turn(self) -> None:
+        self.write("bench/edits/high/c", f"# wrong: one\n{PAIR}old: 2\nnew:\n")
+        self.assertEqual(self.told("high")[0], 0)
+
 
 class ThisRepository(unittest.TestCase):
-    """Each edit here says what is wrong in it."""
+    """Each edit here says what is wrong in it, and can be made."""
 
     def test_each(self) -> None:
         for crate in repository.read_crates():
             for edit in edit_list.edits_of(crate):
                 with self.subTest(f"{crate} {edit.name}"):
                     self.assertTrue(edit.wrong)
+                    self.assertIsNone(edit.unfit)
 
 
 if __name__ == "__main__":
