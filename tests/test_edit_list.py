@@ -77,6 +77,7 @@ class SmallRepository(unittest.TestCase):
             ("file: src/main.rt\nold: 1\nnew: 2\n", "there is no file src/main.rt"),
             ("old: 1\nnew: 2\n", "a new text has no file and no old text before it"),
             ("", "it names no file"),
+            ("file: src/lib.rt\nold: 1\n", "it has no old and new text"),
         ):
             self.write("bench/edits/high/c", f"# wrong: one\n{text}")
             status, lines = self.told("high")

@@ -53,6 +53,7 @@ def why_unfit(text: str, sources: Path) -> Optional[str]:
     """Why the edit of this text can't be made in a crate's folder, if that is so. Its pairs are made one after the other."""
     texts: Dict[str, str] = {}
     file = old = ""
+    made = 0
     for line in text.split("\n"):
         key, _, said = line.partition(":")
         said = said[1:] if said.startswith(" ") else said
@@ -71,7 +72,10 @@ def why_unfit(text: str, sources: Path) -> Optional[str]:
                 return f"{old.strip()} is in {file} {count} times"
             texts[file] = texts[file].replace(old, said)
             old = ""
-    return None if texts else "it names no file"
+            made += 1
+    if not texts:
+        return "it names no file"
+    return None if made else "it has no old and new text"
 
 
 def edits_in(folder: Path, crate: str, in_gate: bool, sources: Path) -> List[Edit]:
