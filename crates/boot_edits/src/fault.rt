@@ -80,7 +80,7 @@ impl EditFault {
     }
 }
 
-/// The text, and behind it the four hexadecimal digits that the name of the entry of this number has.
+/// The text, and after it the four hexadecimal digits that the name of the entry of this number has.
 fn numbered(alloc: Global, text: &str, number: u16) -> Result<String, AllocError>
     ensures { IfOk result (λ words. string_bytes words ≡ text.now ++ four_digits number) }
 {

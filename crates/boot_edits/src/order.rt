@@ -58,7 +58,7 @@ pub(crate) fn without_all(
     Ok(others)
 }
 
-/// These numbers, and behind them the others of the order.
+/// These numbers, and after them the others of the order.
 pub(crate) fn in_front(
     alloc: Global,
     numbers: &[u16],
@@ -73,7 +73,7 @@ pub(crate) fn in_front(
     Ok(new)
 }
 
-/// These numbers, and behind them those of the others that have an entry, each once.
+/// These numbers, and after them those of the others that have an entry, each once.
 pub(crate) fn extended(
     alloc: Global,
     vars: &Vars,

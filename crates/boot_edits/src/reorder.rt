@@ -21,7 +21,7 @@ pub struct NewOrder<'a> {
     pub entries: &'a [u16],
     /// Whether a number among them may have no entry.
     pub stale: bool,
-    /// Whether they are the whole order. If not, behind them come the numbers of the old order that have an entry and aren't
+    /// Whether they are the whole order. If not, after them come the numbers of the old order that have an entry and aren't
     /// among them, in their old order and each once; an old order that can't be read counts as empty.
     pub only: bool,
 }

@@ -5,7 +5,8 @@
 //! its variables: [`update`] first writes there what it is about to change, and [`settle`] does what a journal is left with,
 //! or takes it back if the machine refuses a move. [`command`] settles, runs something over the variables, a [`Run`], and
 //! updates. [`Recorded`] makes a machine of a [`Storage`]. [`read_journal`] reads a journal, and the
-//! [`MachineName`](machine_names::MachineName) of the machine that it is of, from the bytes of a file, all of them, and [`write_journal`] writes them.
+//! [`MachineName`](machine_names::MachineName) of the machine that it is of, from the bytes of a file, all of them, and
+//! [`write_journal`] writes them.
 //!
 //! What a machine keeps under the name of a variable of the boot manager, Boot####, BootOrder, BootNext or Timeout, is the
 //! variable's attributes, in [`ATTRIBUTES_LEN`](uefi_vars::ATTRIBUTES_LEN) bytes, and then its data, as a file of Linux's

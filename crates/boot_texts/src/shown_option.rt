@@ -124,12 +124,12 @@ fn exact_texts(alloc: Global, paths: &[Path]) -> Result<Vec<String>, AllocError>
     Ok(texts)
 }
 
-/// The path at the start of a list of paths, and the list behind it.
+/// The path at the start of a list of paths, and the list after it.
 #[derive(Clone, Copy)]
 pub(crate) struct FirstPath<'a> {
     /// The nodes of the path, where they are.
     pub(crate) nodes: NodeIter<'a>,
-    /// The paths behind it.
+    /// The paths after it.
     pub(crate) rest: &'a [u8],
 }
 

@@ -1,16 +1,13 @@
 //! The words of a command line, each ended by a zero.
 
-ghost use Rattle.std.specs.Prelude.{◌≡◌, ◌≢◌, ◌<◌, ◌==◌, None, length, map, position, IfOk, IfErr, IfSome, IsUtf8};
-ghost use Rattle.std.specs.List.{AllByRecursion};
+ghost use Rattle.std.specs.Prelude.{◌≡◌, ◌≢◌, ◌<◌, ◌==◌, None, length, map, position, IfOk, IfErr, IfSome};
 ghost use Rattle.std.specs.String.{string_bytes};
-ghost use Rattle.change_records.specs.Fault.{IsWordFault};
-ghost use Rattle.change_records.specs.declared.fault.RecordFault.TheVariants as fault;
 ghost use Rattle.bootkeep_c.specs.declared.failure.Failure.{Failure};
 ghost use Rattle.bootkeep_c.specs.CommandLines.{HasNoZero, AreEnded, IsOpenFailure, AreWordsOf, IsWordsFailure, SplitsWord};
 
 use crate::failure::Failure;
 use crate::refusal::RECORD_OPEN_WORD;
-use change_records::RecordFault;
+use change_records::words_of;
 use std::alloc::Global;
 
 /// The words of a command line with these bytes.
@@ -20,22 +17,6 @@ pub(crate) fn command_words(alloc: Global, bytes: &[u8]) -> Result<Vec<String>, 
 {
     let parts = cut(alloc, bytes)?;
     Ok(words_of(alloc, &parts)?)
-}
-
-/// The words that these bytes are, each in UTF-8.
-fn words_of(alloc: Global, parts: &[&[u8]]) -> Result<Vec<String>, RecordFault>
-    ensures found { IfOk result (λ words. map string_bytes words.items ≡ map (λ f. f.now) parts.now) }
-    ensures valid { IfOk result (λ words. AllByRecursion IsUtf8 (map (λ f. f.now) parts.now)) }
-    ensures fault { IfErr result (λ f. f ≢ fault.OutOfMemory → IsWordFault (map (λ f. f.now) parts.now) f) }
-{
-    let mut words = Vec::new(alloc);
-    for (index, part) in parts.iter().enumerate() {
-        let Ok(word) = str::from_utf8(part) else {
-            return Err(RecordFault::BadWord(index));
-        };
-        words.push(String::from_str(alloc, word)?)?;
-    }
-    Ok(words)
 }
 
 /// What stands before each zero.

@@ -67,8 +67,12 @@ fn after_of(alloc: Global, field: &[u8]) -> Result<Vars, RecordFault>
     }
 }
 
-/// The words that these fields are.
-fn words_of(alloc: Global, fields: &[&[u8]]) -> Result<Vec<String>, RecordFault>
+/// The words of a command that these fields are, each in UTF-8.
+///
+/// # Errors
+///
+/// [`RecordFault::BadWord`] with the index of the first field that isn't UTF-8, or out of memory.
+pub fn words_of(alloc: Global, fields: &[&[u8]]) -> Result<Vec<String>, RecordFault>
     ensures found { IfOk result (λ words. map string_bytes words.items ≡ map (λ f. f.now) fields.now) }
     ensures valid { IfOk result (λ words. AllByRecursion IsUtf8 (map (λ f. f.now) fields.now)) }
     ensures fault { IfErr result (λ f. f ≢ fault.OutOfMemory → IsWordFault (map (λ f. f.now) fields.now) f) }

@@ -46,9 +46,9 @@ impl Display for Length<'_> {
 /// What is damaged of an emulator's variable file, in words that go on from what the file is called.
 #[derive(Clone, Copy, Debug)]
 pub struct DamageWords {
-    /// The place of the first byte behind the last record that isn't erased: its offset in bytes from the file's first byte.
+    /// The place of the first byte after the last record that isn't erased: its offset in bytes from the file's first byte.
     pub place: usize,
-    /// How many records can be read behind the last one.
+    /// How many records can be read after the last one.
     pub records: usize,
 }
 
@@ -57,9 +57,9 @@ impl Display for DamageWords {
         let DamageWords { place, records } = self;
         write!(f, "its store of variables is damaged at byte {place}: ")?;
         match records {
-            0 => f.write_str("no record can be read behind it"),
-            1 => f.write_str("1 record can be read behind it"),
-            _ => write!(f, "{records} records can be read behind it"),
+            0 => f.write_str("no record can be read after it"),
+            1 => f.write_str("1 record can be read after it"),
+            _ => write!(f, "{records} records can be read after it"),
         }
     }
 }

@@ -91,7 +91,7 @@ pub enum Reason {
     /// A record of a store, at this offset, ends after the store.
     #[error("its store of variables is damaged: the record at byte {0} ends after the store")]
     RecordCut(usize),
-    /// A store of variables has something behind its last record that isn't erased, and is to be written.
+    /// A store of variables has something after its last record that isn't erased, and is to be written.
     #[error("{0}; nothing is changed, and --force writes over it")]
     Damage(DamageWords),
     /// A store has no room for what is to be written.

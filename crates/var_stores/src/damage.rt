@@ -1,4 +1,4 @@
-//! What isn't erased behind the records of a store.
+//! What isn't erased after the records of a store.
 
 ghost use Rattle.std.specs.Prelude.{◌≡◌, ◌==◌, not, ◌↔◌, None, drop, IfSome, IsTrue, MatchOption};
 ghost use Rattle.std.specs.List.{position};
@@ -10,17 +10,17 @@ use crate::store::VariableStore;
 /// What erased memory reads as.
 const ERASED: u8 = 0xFF;
 
-/// What is found behind the last record of a store where all bytes ought to be erased.
+/// What is found after the last record of a store where all bytes ought to be erased.
 #[derive(Clone, Copy, Debug, PartialEq, Eq, Hash)]
 pub struct Damage {
-    /// The place of the first byte behind the last record that isn't 0xFF: its offset in bytes from the file's first byte.
+    /// The place of the first byte after the last record that isn't 0xFF: its offset in bytes from the file's first byte.
     pub place: usize,
-    /// How many records can be read behind the last one.
+    /// How many records can be read after the last one.
     pub records: usize,
 }
 
 impl VariableStore<'_> {
-    /// What isn't erased behind the last record of a store that was read: `None` exactly if all bytes of `free` are 0xFF,
+    /// What isn't erased after the last record of a store that was read: `None` exactly if all bytes of `free` are 0xFF,
     /// or all but the first, which is the one by which a record begins, 0xAA.
     ///
     /// Records are looked for at offsets that are multiples of four from the first byte after the store's header. One that
@@ -28,7 +28,7 @@ impl VariableStore<'_> {
     /// ends after the store, reading goes on four bytes later. If there are some, then a record before them has lost its
     /// start or its lengths, and what is written after the last record goes over them.
     ///
-    /// That one byte is all that edk2 leaves behind the records if it is cut off while it writes one: from the second on a
+    /// That one byte is all that edk2 leaves after the records if it is cut off while it writes one: from the second on a
     /// record that isn't finished is there.
     pub fn damage(&self) -> Option<Damage>
         ensures none { (result ≡ None) ↔ IsUnwritten self.now.free.now }

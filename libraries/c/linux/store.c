@@ -177,7 +177,7 @@ static uint32_t look_at_rest(struct bootkeep_machine *machine, bool is_change, s
     }
     snprintf(text, sizeof text,
              "its store of variables is damaged at byte %zu, and there may have been more: %zu"
-             " records can be read behind it",
+             " records can be read after it",
              place, count_records(rest));
     return remark(machine, machine->place, text) ? BOOTKEEP_DONE : call_no_memory(machine);
 }
