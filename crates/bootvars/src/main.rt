@@ -5,7 +5,7 @@
 
 use boot_texts::TrialView;
 use boot_trials::{Outcome, TrialTarget};
-use machine_changes::ChangeOptions;
+use machine_changes::change_machine;
 use messages::Failure;
 use profile_changes::{apply_profile, show_profile};
 use std::process::ExitCode;
@@ -13,7 +13,9 @@ use std::rt::{Clock, Env, Files};
 use trial_changes::{TrialForm, begin_trial, confirm_trial, end_trial, trial_view};
 use uefi_vars::Vars;
 use var_commands::{OtherProgram, Profiles, Trials};
-use wanted_changes::{MachineWords, ProfileWords};
+use wanted_changes::{
+    ChangeOptions, MachineWords, Machines, PlaceKind, ProfileWords, ToldAnswer, Wanted,
+};
 use whole_files::OutputFile;
 
 /// What is done for the words of `efibootmgr`, and for those of starts on trial and of profiles.
@@ -24,7 +26,7 @@ impl<R: Env + Files<File: OutputFile> + Clock + Input + Print + Eprint + AllocGl
     R,
 > for Others {
     fn run(&self, rt: &R, words: &[String]) -> u8 {
-        efibootmgr_runs::run(rt, words)
+        efibootmgr_runs::run(rt, self, words)
     }
 }
 
@@ -37,7 +39,7 @@ impl<R: Files<File: OutputFile> + Clock + Input + Print + Eprint + AllocGlobal> 
         target: TrialTarget<'_>,
         json: bool,
     ) -> Result<(), Failure> {
-        begin_trial(rt, options, target, form_of(json))
+        begin_trial(rt, self, options, target, form_of(json))
     }
 
     fn confirm(
@@ -46,7 +48,7 @@ impl<R: Files<File: OutputFile> + Clock + Input + Print + Eprint + AllocGlobal> 
         options: &ChangeOptions<'_>,
         json: bool,
     ) -> Result<Option<Outcome>, Failure> {
-        confirm_trial(rt, options, form_of(json))
+        confirm_trial(rt, self, options, form_of(json))
     }
 
     fn end(&self, rt: &R, machine: &MachineWords<'_>, json: bool) -> Result<(), Failure> {
@@ -71,11 +73,27 @@ impl<R: Files<File: OutputFile> + Clock + Input + Print + Eprint + AllocGlobal> 
         options: &ChangeOptions<'_>,
         words: &ProfileWords<'_>,
     ) -> Result<bool, Failure> {
-        apply_profile(rt, options, words)
+        apply_profile(rt, self, options, words)
     }
 
     fn show(&self, rt: &R, place: &str) -> Result<(), Failure> {
         show_profile(rt, place)
+    }
+}
+
+impl Machines for Others {
+    fn change<R, W>(
+        &self,
+        rt: &R,
+        options: &ChangeOptions<'_>,
+        kind: PlaceKind,
+        wanted: &W,
+    ) -> Result<ToldAnswer<W::Answer>, W::Refusal>
+    where
+        R: Files<File: OutputFile> + Clock + Input + Print + Eprint + AllocGlobal,
+        W: Wanted,
+    {
+        change_machine(rt, options, kind, wanted)
     }
 }
 

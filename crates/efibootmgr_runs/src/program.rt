@@ -13,16 +13,18 @@ use std::fmt::Display;
 use std::rt::{Clock, Env, Files};
 use uefi_option::check_option;
 use uefi_vars::{EntryNameIn, Vars};
+use wanted_changes::Machines;
 use whole_files::OutputFile;
 
 /// Does what the words ask for, of which the first is the name by which the program is called, and returns the status to end
 /// with: that of `efibootmgr`, which is 0 if all is done. What goes wrong is told on standard error.
-pub fn run<R: Env + Files<File: OutputFile> + Clock + Input + Print + Eprint + AllocGlobal>(
-    rt: &R,
-    words: &[String],
-) -> u8 {
+pub fn run<R, M>(rt: &R, machines: &M, words: &[String]) -> u8
+where
+    R: Env + Files<File: OutputFile> + Clock + Input + Print + Eprint + AllocGlobal,
+    M: Machines,
+{
     match asked_of(rt, words) {
-        Ok(Ok(asked)) => match answer(rt, words, &asked) {
+        Ok(Ok(asked)) => match answer(rt, machines, words, &asked) {
             Ok(()) => 0,
             Err(stopped) => tell_stop(rt, &stopped),
         },
@@ -64,11 +66,11 @@ fn tell<R: Eprint, D: Display + Drop>(rt: &R, text: D) {
 }
 
 /// Does what is asked for.
-fn answer<R: Env + Files<File: OutputFile> + Clock + Input + Print + Eprint + AllocGlobal>(
-    rt: &R,
-    words: &[String],
-    asked: &Asked<'_>,
-) -> Result<(), Stopped> {
+fn answer<R, M>(rt: &R, machines: &M, words: &[String], asked: &Asked<'_>) -> Result<(), Stopped>
+where
+    R: Env + Files<File: OutputFile> + Clock + Input + Print + Eprint + AllocGlobal,
+    M: Machines,
+{
     if asked.help {
         return show(rt, HELP);
     }
@@ -87,19 +89,24 @@ fn answer<R: Env + Files<File: OutputFile> + Clock + Input + Print + Eprint + Al
         family,
         state: state.as_str(),
     };
-    run_steps(&ToldOnce::new(rt), &machine, asked)
+    run_steps(&ToldOnce::new(rt), machines, &machine, asked)
 }
 
 /// Makes the changes that are asked for, and lists the variables unless that isn't wanted.
-fn run_steps<R: Files<File: OutputFile> + Clock + Input + Print + Eprint + AllocGlobal>(
+fn run_steps<R, M>(
     rt: &R,
+    machines: &M,
     machine: &Machine<'_>,
     asked: &Asked<'_>,
-) -> Result<(), Stopped> {
+) -> Result<(), Stopped>
+where
+    R: Files<File: OutputFile> + Clock + Input + Print + Eprint + AllocGlobal,
+    M: Machines,
+{
     if let Err(failure) = machine.read(rt) {
         return Err(Stopped::at(Step::Read, failure));
     }
-    make_changes(rt, machine, asked)?;
+    make_changes(rt, machines, machine, asked)?;
     if asked.quiet {
         return Ok(());
     }

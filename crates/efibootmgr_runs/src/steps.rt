@@ -12,16 +12,14 @@ use crate::stopped::{Step, Stopped};
 use boot_edits::Edit;
 use boot_history::{DEFAULT_STATE, make_state_folder};
 use efibootmgr_words::Asked;
-use machine_changes::{
-    ChangeOptions, PlaceKind, StateFolder, StateUse, change_machine, lock_folder,
-};
+use machine_storage::{StateFolder, lock_folder};
 use messages::{Failure, IsThere, NoSuch};
 use place_edits::{EditForm, WantedEdit};
 use std::alloc::Global;
 use std::rt::{Clock, Files};
 use uefi_vars::{BOOT_NEXT, EntryFamily, EntryNameIn, TIMEOUT};
 use var_places::PlaceVars;
-use wanted_changes::is_one_of;
+use wanted_changes::{ChangeOptions, Machines, PlaceKind, StateUse, is_one_of};
 use whole_files::OutputFile;
 
 /// Makes each change that is asked for, in the order in which `efibootmgr` makes them.
@@ -29,22 +27,34 @@ use whole_files::OutputFile;
 /// # Errors
 ///
 /// What couldn't be done first. What came before it is done.
-pub(crate) fn make_changes<
+pub(crate) fn make_changes<R, M>(
+    rt: &R,
+    machines: &M,
+    machine: &Machine<'_>,
+    asked: &Asked<'_>,
+) -> Result<(), Stopped>
+where
     R: Files<File: OutputFile> + Clock + Input + Print + Eprint + AllocGlobal,
->(rt: &R, machine: &Machine<'_>, asked: &Asked<'_>) -> Result<(), Stopped> {
+    M: Machines,
+{
     for change in &plan_changes(rt.alloc(), asked)? {
-        make(rt, machine, asked, change)?;
+        make(rt, machines, machine, asked, change)?;
     }
     Ok(())
 }
 
 /// Makes one of them, if what it needs is there.
-fn make<R: Files<File: OutputFile> + Clock + Input + Print + Eprint + AllocGlobal>(
+fn make<R, M>(
     rt: &R,
+    machines: &M,
     machine: &Machine<'_>,
     asked: &Asked<'_>,
     change: &Planned,
-) -> Result<(), Stopped> {
+) -> Result<(), Stopped>
+where
+    R: Files<File: OutputFile> + Clock + Input + Print + Eprint + AllocGlobal,
+    M: Machines,
+{
     let step = Step::of(change);
     match change {
         Planned::Create => {
@@ -53,19 +63,19 @@ fn make<R: Files<File: OutputFile> + Clock + Input + Print + Eprint + AllocGloba
                 check_free(rt, machine, entry)?;
             }
             match option_bytes(rt, &asked.new, &asked.others) {
-                Ok(option) => edit(rt, machine, step, edit_of(asked, change, &option)),
+                Ok(option) => edit(rt, machines, machine, step, edit_of(asked, change, &option)),
                 Err(failure) => Err(Stopped::at(step, failure)),
             }
         }
         Planned::DeleteNext => {
             check_there(rt, machine, step, BOOT_NEXT)?;
-            edit(rt, machine, step, edit_of(asked, change, &[]))
+            edit(rt, machines, machine, step, edit_of(asked, change, &[]))
         }
         Planned::DeleteTimeout => {
             check_there(rt, machine, step, TIMEOUT)?;
-            edit(rt, machine, step, edit_of(asked, change, &[]))
+            edit(rt, machines, machine, step, edit_of(asked, change, &[]))
         }
-        _ => edit(rt, machine, step, edit_of(asked, change, &[])),
+        _ => edit(rt, machines, machine, step, edit_of(asked, change, &[])),
     }
 }
 
@@ -152,12 +162,17 @@ fn made_parent<R: Files<File: OutputFile> + AllocGlobal>(
 }
 
 /// Makes a change of boot entries, and tells standard error what there is to tell of it.
-fn edit<R: Files<File: OutputFile> + Clock + Input + Print + Eprint + AllocGlobal>(
+fn edit<R, M>(
     rt: &R,
+    machines: &M,
     machine: &Machine<'_>,
     step: Step,
     edit: Edit<'_>,
-) -> Result<(), Stopped> {
+) -> Result<(), Stopped>
+where
+    R: Files<File: OutputFile> + Clock + Input + Print + Eprint + AllocGlobal,
+    M: Machines,
+{
     // Held until the change is made.
     let _parent = parent_of(rt, machine, step)?;
     let wanted = WantedEdit {
@@ -171,7 +186,7 @@ fn edit<R: Files<File: OutputFile> + Clock + Input + Print + Eprint + AllocGloba
         dry_run: false,
         state: StateUse::Made,
     };
-    match change_machine(rt, &options, PlaceKind::Folder, &wanted) {
+    match machines.change(rt, &options, PlaceKind::Folder, &wanted) {
         Ok(answered) => {
             answered.told.remark(rt);
             Ok(())

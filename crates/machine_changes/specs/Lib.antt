@@ -1,4 +1,1 @@
 pub mod KeptFault
-pub mod Moves
-pub mod Owner
-pub mod StateAccess

@@ -1,23 +1,17 @@
 //! The one way in which the boot variables of a machine are changed.
 
-use crate::failures::{from_settling, from_updating};
-use crate::file_changes::{changed_bytes, changed_set_bytes, settle_left};
+use crate::file_changes::{changed_bytes, changed_set_bytes};
 use crate::history::History;
-use crate::kept_run::{KeptFault, KeptRun, SeenChange, ToldAnswer, ToldChange, kept_command};
-use crate::kept_vars::KeptVars;
-use crate::notes::{begin_notes, notes_of};
-use crate::opened::{
-    KeptFile, Machine, OpenedPlace, open_machine, open_place, read_kept, read_kept_file,
-    read_kept_set,
-};
-use crate::owner::name_of_machine;
-use crate::place_kind::PlaceKind;
-use crate::standing::{SettledMachine, settled_file, settled_machine};
-use crate::state_use::{StateUse, file_state, keep_before, state_folder};
-use crate::told::tell_of_due;
+use crate::kept_run::{KeptFault, KeptRun, SeenChange, ToldChange, kept_command};
+use crate::state_use::{file_state, keep_before, state_folder};
 use boot_journal::{CallError, CommandError};
 use boot_notes::{IDENTITY_LEN, Notes};
 use machine_names::MachineName;
+use machine_storage::{
+    KeptFile, KeptVars, Machine, OpenedPlace, SettledMachine, begin_notes, from_settling,
+    from_updating, name_of_machine, notes_of, open_machine, open_place, read_kept, read_kept_file,
+    read_kept_set, settle_left, settled_file, settled_machine, tell_of_due,
+};
 use messages::{Failure, note};
 use std::alloc::Global;
 use std::cell::RefCell;
@@ -25,21 +19,10 @@ use std::rc::Rc;
 use std::rt::{Clock, Files};
 use uefi_vars::Vars;
 use var_places::{lock_place, write};
-use wanted_changes::{KeptNotes, MachineWords, Seen, Wanted, journal_identity};
+use wanted_changes::{
+    ChangeOptions, KeptNotes, MachineWords, PlaceKind, Seen, ToldAnswer, Wanted, journal_identity,
+};
 use whole_files::OutputFile;
-
-/// How a change is to be made.
-#[derive(Clone, Copy, Debug)]
-pub struct ChangeOptions<'a> {
-    /// The machine.
-    pub machine: MachineWords<'a>,
-    /// The words of the command, by which what was there before is kept: `None` if it isn't kept.
-    pub command: Option<&'a [String]>,
-    /// Whether nothing is changed, and what would be is told.
-    pub dry_run: bool,
-    /// What is done about the state folder.
-    pub state: StateUse,
-}
 
 /// Does what is left of earlier updates of a machine, and then makes a change of its variables, or looks what it would be
 /// for a dry run. A folder as Linux shows variables is changed by the journal in the state folder, so that a cut leaves the old

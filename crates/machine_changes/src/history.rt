@@ -8,6 +8,7 @@ use boot_history::{newest, push, remove, time_now};
 use boot_journal::CallError;
 use change_records::{Record, Standing, standing_of};
 use machine_names::MachineName;
+use machine_storage::copies;
 use messages::Failure;
 use std::alloc::{AllocError, Global};
 use std::rt::{Clock, Files};
@@ -100,15 +101,6 @@ fn changes_some(alloc: Global, from: &Vars, to: &Vars) -> Result<bool, AllocErro
     ensures { IfOk result (λ some. IsTrue some ↔ (changes_from from.now to.now ≢ [])) }
 {
     Ok(!boot_changes(alloc, from, to)?.is_empty())
-}
-
-/// The same texts. This fails only when out of memory.
-pub(crate) fn copies(alloc: Global, texts: &[String]) -> Result<Vec<String>, AllocError> {
-    let mut copies = Vec::with_capacity(alloc, texts.len())?;
-    for text in texts {
-        copies.push(text.clone()?)?;
-    }
-    Ok(copies)
 }
 
 /// The same name. This fails only when out of memory.

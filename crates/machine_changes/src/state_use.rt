@@ -1,27 +1,16 @@
 //! The state folder of a change, and what is kept in it of what was there before.
 
 use crate::history::History;
-use crate::state_folder::{StateFolder, lock_folder};
 use boot_history::make_state_folder;
 use boot_journal::CallError;
 use machine_names::MachineName;
+use machine_storage::{StateFolder, lock_folder};
 use messages::{Failure, note};
 use std::fs;
 use std::rt::{Clock, Files};
 use uefi_vars::Vars;
-use wanted_changes::MachineWords;
+use wanted_changes::{MachineWords, StateUse};
 use whole_files::OutputFile;
-
-/// What is done about a state folder that isn't there.
-#[derive(Clone, Copy, Debug, PartialEq, Eq)]
-pub enum StateUse {
-    /// Nothing is changed then.
-    Needed,
-    /// It is made. If that can't be, the change of a variable file is made without it, which is told.
-    Made,
-    /// The change of a variable file is made without it. For a folder it is made.
-    IfThere,
-}
 
 /// The state folder of a change by the journal, locked.
 ///

@@ -3,13 +3,13 @@
 use crate::making::{ProfileSource, made_profile};
 use crate::showing::shown_profile;
 use crate::wanted_profile::WantedProfile;
-use machine_changes::{ChangeOptions, change_machine, kind_of_place};
+use machine_storage::kind_of_place;
 use messages::{Failure, note, print};
 use profile_files::{FileError, read_profile};
 use std::alloc::Global;
 use std::rt::{Clock, Files};
 use var_places::{name_of, read, read_place};
-use wanted_changes::ProfileWords;
+use wanted_changes::{ChangeOptions, Machines, ProfileWords};
 use whole_files::OutputFile;
 
 /// Makes the boot variables of a place what the file says, and prints the changes. Gives whether there are some.
@@ -18,12 +18,17 @@ use whole_files::OutputFile;
 ///
 /// [`Failure::Read`] and [`Failure::Refused`] if the file can't be read or is no profile, or a loader isn't found;
 /// [`Failure::Loader`] if firmware doesn't start it; [`Failure::Run`] if the profile isn't applied to what is there; and
-/// those of [`change_machine`].
-pub fn apply_profile<R: Files<File: OutputFile> + Clock + Input + Print + Eprint + AllocGlobal>(
+/// those of the change.
+pub fn apply_profile<R, M>(
     rt: &R,
+    machines: &M,
     options: &ChangeOptions<'_>,
     words: &ProfileWords<'_>,
-) -> Result<bool, Failure> {
+) -> Result<bool, Failure>
+where
+    R: Files<File: OutputFile> + Clock + Input + Print + Eprint + AllocGlobal,
+    M: Machines,
+{
     let place = options.machine.place;
     let bytes = read(rt, words.file)?;
     let name = name_of(words.file);
@@ -46,7 +51,7 @@ pub fn apply_profile<R: Files<File: OutputFile> + Clock + Input + Print + Eprint
         json: words.json,
     };
     let kind = kind_of_place(rt, place)?;
-    change_machine(rt, options, kind, &wanted)?.give(rt)
+    machines.change(rt, options, kind, &wanted)?.give(rt)
 }
 
 /// What it is to the program that the file of this name isn't read.

@@ -6,13 +6,11 @@ use crate::trial_file::stored_trial;
 use crate::wanted_confirm::WantedConfirm;
 use crate::wanted_try::WantedTry;
 use boot_trials::{Outcome, TrialTarget};
-use machine_changes::{
-    ChangeOptions, PlaceKind, boot_id, change_machine, kind_of_place, lock_folder,
-};
+use machine_storage::{boot_id, kind_of_place, lock_folder};
 use messages::{Failure, print};
 use std::fs;
 use std::rt::{Clock, Files};
-use wanted_changes::MachineWords;
+use wanted_changes::{ChangeOptions, MachineWords, Machines, PlaceKind};
 use whole_files::OutputFile;
 
 /// Begins a trial of this, and prints that.
@@ -20,13 +18,18 @@ use whole_files::OutputFile;
 /// # Errors
 ///
 /// [`Failure::Refused`] if the place is a file, which doesn't tell by which entry a machine came up; [`Failure::Run`] if there
-/// is a trial already, or the entry can't be tried; and otherwise those of [`change_machine`].
-pub fn begin_trial<R: Files<File: OutputFile> + Clock + Input + Print + Eprint + AllocGlobal>(
+/// is a trial already, or the entry can't be tried; and otherwise those of the change.
+pub fn begin_trial<R, M>(
     rt: &R,
+    machines: &M,
     options: &ChangeOptions<'_>,
     target: TrialTarget<'_>,
     form: TrialForm,
-) -> Result<(), Failure> {
+) -> Result<(), Failure>
+where
+    R: Files<File: OutputFile> + Clock + Input + Print + Eprint + AllocGlobal,
+    M: Machines,
+{
     check_place(rt, options.machine.place)?;
     let start = boot_id(rt, &options.machine, true)?;
     let wanted = WantedTry {
@@ -36,7 +39,9 @@ pub fn begin_trial<R: Files<File: OutputFile> + Clock + Input + Print + Eprint +
         start: &start,
         form,
     };
-    change_machine(rt, options, PlaceKind::Folder, &wanted)?.give(rt)?;
+    machines
+        .change(rt, options, PlaceKind::Folder, &wanted)?
+        .give(rt)?;
     Ok(())
 }
 
@@ -46,12 +51,17 @@ pub fn begin_trial<R: Files<File: OutputFile> + Clock + Input + Print + Eprint +
 /// # Errors
 ///
 /// [`Failure::Refused`] if the place is a file, which doesn't tell by which entry a machine came up, or the trial that is kept
-/// is damaged; and otherwise those of [`change_machine`].
-pub fn confirm_trial<R: Files<File: OutputFile> + Clock + Input + Print + Eprint + AllocGlobal>(
+/// is damaged; and otherwise those of the change.
+pub fn confirm_trial<R, M>(
     rt: &R,
+    machines: &M,
     options: &ChangeOptions<'_>,
     form: TrialForm,
-) -> Result<Option<Outcome>, Failure> {
+) -> Result<Option<Outcome>, Failure>
+where
+    R: Files<File: OutputFile> + Clock + Input + Print + Eprint + AllocGlobal,
+    M: Machines,
+{
     check_place(rt, options.machine.place)?;
     if stored_trial(rt, options.machine.state)?.is_none() {
         print(rt, no_trial(rt.alloc(), form)?.as_bytes())?;
@@ -64,7 +74,9 @@ pub fn confirm_trial<R: Files<File: OutputFile> + Clock + Input + Print + Eprint
         start: &start,
         form,
     };
-    let confirmation = change_machine(rt, options, PlaceKind::Folder, &wanted)?.give(rt)?;
+    let confirmation = machines
+        .change(rt, options, PlaceKind::Folder, &wanted)?
+        .give(rt)?;
     Ok(confirmation.map(|confirmation| confirmation.outcome))
 }
 

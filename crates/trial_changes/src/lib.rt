@@ -3,8 +3,8 @@
 //!
 //! [`begin_trial`] begins a trial, which `boot_trials` has, and keeps it in the machine's state folder before a variable is
 //! changed; [`confirm_trial`] makes what follows from the trial that is kept there, and [`end_trial`] ends it without a change.
-//! [`trial_view`] is what there is to tell of it. What is wanted of the machine is made so by `machine_changes`, whatever is
-//! cut off when.
+//! [`trial_view`] is what there is to tell of it. What is wanted of the machine is made so by
+//! [`Machines`](wanted_changes::Machines), whatever is cut off when.
 #![tactic(auto)]
 
 mod commands;

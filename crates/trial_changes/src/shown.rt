@@ -4,7 +4,7 @@ use crate::telling::standing_of;
 use crate::trial_file::stored_trial;
 use boot_texts::{TrialStanding, TrialView};
 use boot_trials::{Facts, Outcome, Trial, boot_current, outcome_of};
-use machine_changes::boot_id;
+use machine_storage::boot_id;
 use messages::{Failure, note};
 use std::io::ErrorKind;
 use std::rt::Files;

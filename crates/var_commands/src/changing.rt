@@ -5,10 +5,11 @@ use crate::trials::Trials;
 use boot_edits::{Addition, Edit, NewOrder};
 use boot_trials::TrialTarget;
 use bootvars_actions::{AddWords, ChangeWords, EntryChange, Form};
-use machine_changes::{ChangeOptions, StateUse, change_machine, kind_of_place};
+use machine_storage::kind_of_place;
 use messages::Failure;
 use place_edits::{EditForm, WantedEdit};
 use std::rt::{Clock, Files};
+use wanted_changes::{ChangeOptions, Machines, StateUse};
 use whole_files::OutputFile;
 
 /// Makes the change that the words ask for, which are these of the command line, and prints it. What was there before is kept
@@ -16,17 +17,18 @@ use whole_files::OutputFile;
 ///
 /// # Errors
 ///
-/// [`Failure::Words`] if a word isn't what it is to be, and those of [`change_machine`].
+/// [`Failure::Words`] if a word isn't what it is to be, and those of the change.
 pub(crate) fn change_entries<
     R: Files<File: OutputFile> + Clock + Input + Print + Eprint + AllocGlobal,
-    T: Trials<R>,
->(rt: &R, trials: &T, words: &ChangeWords<'_>, command: &[String]) -> Result<(), Failure> {
+    T: Trials<R> + Machines,
+>(rt: &R, others: &T, words: &ChangeWords<'_>, command: &[String]) -> Result<(), Failure> {
     let alloc = rt.alloc();
     match words.change {
-        EntryChange::Add(add) => add_entry(rt, trials, words, &add, command),
+        EntryChange::Add(add) => add_entry(rt, others, words, &add, command),
         EntryChange::Remove(entries) => {
             change(
                 rt,
+                others,
                 words,
                 Edit::Remove(&entries_of(alloc, entries)?),
                 command,
@@ -34,6 +36,7 @@ pub(crate) fn change_entries<
         }
         EntryChange::First(entries) => change(
             rt,
+            others,
             words,
             Edit::First(&entries_of(alloc, entries)?),
             command,
@@ -49,12 +52,13 @@ pub(crate) fn change_entries<
                 stale,
                 only,
             };
-            change(rt, words, Edit::Order(order), command)
+            change(rt, others, words, Edit::Order(order), command)
         }
-        EntryChange::Next(None) => change(rt, words, Edit::Next(None), command),
+        EntryChange::Next(None) => change(rt, others, words, Edit::Next(None), command),
         EntryChange::Next(Some(entry)) => {
             change(
                 rt,
+                others,
                 words,
                 Edit::Next(Some(entry_of(alloc, entry)?)),
                 command,
@@ -65,11 +69,12 @@ pub(crate) fn change_entries<
                 Some(word) => Some(seconds_of(alloc, word)?),
                 None => None,
             };
-            change(rt, words, Edit::Timeout(seconds), command)
+            change(rt, others, words, Edit::Timeout(seconds), command)
         }
         EntryChange::Activate(entries) => {
             change(
                 rt,
+                others,
                 words,
                 Edit::Activate(&entries_of(alloc, entries)?),
                 command,
@@ -78,6 +83,7 @@ pub(crate) fn change_entries<
         EntryChange::Deactivate(entries) => {
             change(
                 rt,
+                others,
                 words,
                 Edit::Deactivate(&entries_of(alloc, entries)?),
                 command,
@@ -89,10 +95,10 @@ pub(crate) fn change_entries<
 /// Adds the entry that the words say, and begins its trial, if it is to be tried.
 fn add_entry<
     R: Files<File: OutputFile> + Clock + Input + Print + Eprint + AllocGlobal,
-    T: Trials<R>,
+    T: Trials<R> + Machines,
 >(
     rt: &R,
-    trials: &T,
+    others: &T,
     words: &ChangeWords<'_>,
     add: &AddWords<'_>,
     command: &[String],
@@ -111,9 +117,9 @@ fn add_entry<
     if add.tried {
         let json = matches!(words.form, Form::Json);
         let target = TrialTarget::Added(addition);
-        return trials.begin(rt, &options_of(words, command), target, json);
+        return others.begin(rt, &options_of(words, command), target, json);
     }
-    change(rt, words, Edit::Add(addition), command)
+    change(rt, others, words, Edit::Add(addition), command)
 }
 
 /// How the change is to be made.
@@ -127,12 +133,17 @@ fn options_of<'a>(words: &ChangeWords<'a>, command: &'a [String]) -> ChangeOptio
 }
 
 /// Makes the change, and prints it.
-fn change<R: Files<File: OutputFile> + Clock + Input + Print + Eprint + AllocGlobal>(
+fn change<R, M>(
     rt: &R,
+    machines: &M,
     words: &ChangeWords<'_>,
     edit: Edit<'_>,
     command: &[String],
-) -> Result<(), Failure> {
+) -> Result<(), Failure>
+where
+    R: Files<File: OutputFile> + Clock + Input + Print + Eprint + AllocGlobal,
+    M: Machines,
+{
     let place = words.machine.place;
     let options = options_of(words, command);
     let wanted = WantedEdit {
@@ -144,7 +155,7 @@ fn change<R: Files<File: OutputFile> + Clock + Input + Print + Eprint + AllocGlo
         },
     };
     let kind = kind_of_place(rt, place)?;
-    let answered = change_machine(rt, &options, kind, &wanted)?;
+    let answered = machines.change(rt, &options, kind, &wanted)?;
     answered.give(rt)?;
     Ok(())
 }

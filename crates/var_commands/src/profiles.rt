@@ -1,9 +1,8 @@
 //! The command `apply`, which makes a place what a file says.
 
 use bootvars_actions::ApplyWords;
-use machine_changes::{ChangeOptions, StateUse};
 use messages::Failure;
-use wanted_changes::ProfileWords;
+use wanted_changes::{ChangeOptions, ProfileWords, StateUse};
 
 /// What makes a machine what a file says, and prints the file that one has.
 pub trait Profiles<R> {

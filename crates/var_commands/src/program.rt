@@ -28,6 +28,7 @@ use var_places::{
     FileKind, Output, STANDARD, check_output, file_kind, has_keep_state, is_same_file, lock,
     name_of, read, read_place, write,
 };
+use wanted_changes::Machines;
 use whole_files::OutputFile;
 
 /// How the program ends if it did what it was asked to.
@@ -80,7 +81,7 @@ impl Ending {
 pub fn run<R, O>(rt: &R, others: &O) -> u8
 where
     R: Env + Files<File: OutputFile> + Clock + Input + Print + Eprint + AllocGlobal,
-    O: OtherProgram<R> + Trials<R> + Profiles<R>,
+    O: OtherProgram<R> + Trials<R> + Profiles<R> + Machines,
 {
     match words(rt) {
         Ok(words) => match words.as_slice() {
@@ -128,7 +129,7 @@ fn tell<R: Eprint>(rt: &R, outcome: Result<Ending, Failure>) -> u8
 fn answer<R, T>(rt: &R, others: &T, words: &[String]) -> Result<Ending, Failure>
 where
     R: Files<File: OutputFile> + Clock + Input + Print + Eprint + AllocGlobal,
-    T: Trials<R> + Profiles<R>,
+    T: Trials<R> + Profiles<R> + Machines,
 {
     let alloc = rt.alloc();
     match read_words(alloc, words) {
@@ -220,7 +221,7 @@ fn without_controls(alloc: Global, message: &str) -> Result<String, AllocError> 
 fn act<R, T>(rt: &R, others: &T, action: Action<'_>, words: &[String]) -> Result<Ending, Failure>
 where
     R: Files<File: OutputFile> + Clock + Input + Print + Eprint + AllocGlobal,
-    T: Trials<R> + Profiles<R>,
+    T: Trials<R> + Profiles<R> + Machines,
 {
     match action {
         Action::Read {
@@ -252,6 +253,7 @@ where
             form,
         } => undo_change(
             rt,
+            others,
             &UndoWords {
                 machine,
                 force: machine.force,
@@ -263,7 +265,7 @@ where
         Action::ListChanges { machine, form } => {
             done(list_changes(rt, &machine, matches!(form, Form::Json)))
         }
-        Action::Write(set) => write_place(rt, &set, words).map(ending_of),
+        Action::Write(set) => write_place(rt, others, &set, words).map(ending_of),
         Action::Update {
             machine,
             expected,
@@ -330,9 +332,9 @@ fn ending_of_trial(came: Option<Outcome>) -> Ending {
 /// Updates a machine.
 fn update_place<
     R: Files<File: OutputFile> + Clock + Input + Print + Eprint + AllocGlobal,
-    T: Trials<R>,
->(rt: &R, trials: &T, words: &UpdateWords<'_>) -> Result<Ending, Failure> {
-    match update(rt, trials, words) {
+    T: Trials<R> + Machines,
+>(rt: &R, others: &T, words: &UpdateWords<'_>) -> Result<Ending, Failure> {
+    match update(rt, others, words) {
         Ok(Ended::AllDone) => Ok(Ending::Done),
         Ok(Ended::NotAll) => Ok(Ending::NotAll),
         Ok(Ended::Unmet) => Ok(Ending::Unmet),

@@ -3,7 +3,7 @@
 use boot_journal::Journal;
 use boot_texts::{Refusal, refusal_json};
 use boot_updates::{NotMade, next_number};
-use machine_changes::{StoredJournal, journal_path, set_value, stored_with_notes};
+use machine_storage::{StoredJournal, journal_path, set_value, stored_with_notes};
 use messages::{Failure, print};
 use std::alloc::{AllocError, Global};
 use std::rt::Files;

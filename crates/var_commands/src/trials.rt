@@ -5,12 +5,11 @@ use boot_history::DEFAULT_STATE;
 use boot_texts::{TellsTrial, TrialView};
 use boot_trials::{Outcome, TrialTarget};
 use bootvars_actions::{Form, KeptWords, TrialJob, TrialWords};
-use machine_changes::{ChangeOptions, StateUse};
 use messages::Failure;
 use std::rt::Files;
 use uefi_vars::{EntryFamily, Vars};
 use var_places::is_folder;
-use wanted_changes::MachineWords;
+use wanted_changes::{ChangeOptions, MachineWords, StateUse};
 
 /// The folder in which Linux shows the variables of its own firmware.
 const OWN_VARIABLES: &str = "/sys/firmware/efi/efivars";

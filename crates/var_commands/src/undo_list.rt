@@ -2,7 +2,7 @@
 
 use boot_history::{KeptRecord, kept_numbers, kept_record, time_text};
 use boot_texts::{RecordView, record_json, record_line};
-use machine_changes::{lock_folder, name_of_machine};
+use machine_storage::{lock_folder, name_of_machine};
 use messages::{Failure, print};
 use std::alloc::{AllocError, Global};
 use std::rt::Files;

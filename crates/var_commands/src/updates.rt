@@ -9,9 +9,7 @@ use boot_updates::{
     Answered, Ended, NotMade, Printing, ReplyForm, Script, WantedRequests, ending, read_events,
 };
 use bootvars_actions::{Form, Job};
-use machine_changes::{
-    ChangeOptions, PlaceKind, StateUse, ToldAnswer, boot_id, change_machine, settle_machine,
-};
+use machine_storage::{boot_id, settle_machine};
 use messages::{Failure, Quoted, WrongWord};
 use request_preconditions::{Precondition, PreconditionFault, read_precondition};
 use std::alloc::Global;
@@ -19,7 +17,7 @@ use std::fs;
 use std::rt::{Clock, Files};
 use uefi_vars::EntryFamily;
 use var_places::is_folder;
-use wanted_changes::MachineWords;
+use wanted_changes::{ChangeOptions, MachineWords, Machines, PlaceKind, StateUse, ToldAnswer};
 use whole_files::OutputFile;
 
 /// The words of an update.
@@ -54,9 +52,9 @@ pub(crate) struct UpdateWords<'a> {
 /// [`Failure::Memory`] if memory was refused.
 pub(crate) fn update<
     R: Files<File: OutputFile> + Clock + Input + Print + Eprint + AllocGlobal,
-    T: Trials<R>,
->(rt: &R, trials: &T, words: &UpdateWords<'_>) -> Result<Ended, Failure> {
-    match do_job(rt, trials, words) {
+    T: Trials<R> + Machines,
+>(rt: &R, others: &T, words: &UpdateWords<'_>) -> Result<Ended, Failure> {
+    match do_job(rt, others, words) {
         Ok(Some(answered)) => Ok(ending(&answered.give(rt)?)),
         Ok(None) => Ok(Ended::AllDone),
         Err(not_made) => {
@@ -87,11 +85,10 @@ fn reply_form(form: Form, look: bool) -> ReplyForm {
 }
 
 /// Does the job, as of [`update`], and tells nothing: that is given, unless it is only to do what is left of earlier updates.
-fn do_job<R: Files<File: OutputFile> + Clock + Input + Print + Eprint + AllocGlobal, T: Trials<R>>(
-    rt: &R,
-    trials: &T,
-    words: &UpdateWords<'_>,
-) -> Result<Option<ToldAnswer<Answered>>, NotMade> {
+fn do_job<
+    R: Files<File: OutputFile> + Clock + Input + Print + Eprint + AllocGlobal,
+    T: Trials<R> + Machines,
+>(rt: &R, others: &T, words: &UpdateWords<'_>) -> Result<Option<ToldAnswer<Answered>>, NotMade> {
     match words.job {
         Job::Run {
             script,
@@ -112,16 +109,16 @@ fn do_job<R: Files<File: OutputFile> + Clock + Input + Print + Eprint + AllocGlo
             } else {
                 Printing::Replies(form)
             };
-            Ok(Some(run_script(rt, trials, words, &script, printing)?))
+            Ok(Some(run_script(rt, others, words, &script, printing)?))
         }
         Job::Next => {
             let script = Script::empty(rt.alloc());
-            Ok(Some(run_script(rt, trials, words, &script, Printing::Next)?))
+            Ok(Some(run_script(rt, others, words, &script, Printing::Next)?))
         }
         Job::Look => {
             let script = Script::empty(rt.alloc());
             let printing = Printing::Replies(ReplyForm::Look);
-            Ok(Some(run_script(rt, trials, words, &script, printing)?))
+            Ok(Some(run_script(rt, others, words, &script, printing)?))
         }
         Job::Settle => {
             settle_all(rt, &words.machine)?;
@@ -183,10 +180,10 @@ fn settle_family<R: Files<File: OutputFile> + Clock + Input + Print + Eprint + A
 /// Runs the script over the place, or looks what it would do.
 fn run_script<
     R: Files<File: OutputFile> + Clock + Input + Print + Eprint + AllocGlobal,
-    T: Trials<R>,
+    T: Trials<R> + Machines,
 >(
     rt: &R,
-    trials: &T,
+    others: &T,
     words: &UpdateWords<'_>,
     script: &Script<'_>,
     printing: Printing,
@@ -210,7 +207,7 @@ fn run_script<
     };
     let trials = KeptTrial {
         rt,
-        trials,
+        trials: others,
         machine: match kind {
             PlaceKind::Folder => Some(words.machine),
             PlaceKind::VariableFile | PlaceKind::Set => None,
@@ -224,7 +221,7 @@ fn run_script<
         start: start.as_ref().map(BootId::as_str),
         trials: &trials,
     };
-    change_machine(rt, &options, kind, &wanted)
+    others.change(rt, &options, kind, &wanted)
 }
 
 /// The identity of the machine's start that a look tells: none if it isn't given and the system doesn't tell it.

@@ -1,12 +1,13 @@
 //! The command `write`, which makes the boot variables of a place those of a set.
 
 use bootvars_actions::{Form, SetWords};
-use machine_changes::{ChangeOptions, PlaceKind, StateUse, change_machine, kind_of_place};
+use machine_storage::kind_of_place;
 use messages::{Failure, Reason};
 use place_edits::{Takeable, WantedSet};
 use std::rt::{Clock, Files};
 use uefi_vars::{Vars, entry_number};
 use var_places::{FileKind, file_kind, is_folder, name_of, no_place, read_variables, set_vars};
+use wanted_changes::{ChangeOptions, Machines, PlaceKind, StateUse};
 use whole_files::OutputFile;
 
 /// Makes the boot variables of a place those of a set, and prints each change, or how the two differ, for a dry run. Gives what
@@ -15,10 +16,17 @@ use whole_files::OutputFile;
 ///
 /// # Errors
 ///
-/// [`Failure::Refused`] if the set is none, is damaged or has no entry; otherwise those of [`change_machine`].
-pub(crate) fn write_place<
+/// [`Failure::Refused`] if the set is none, is damaged or has no entry; otherwise those of the change.
+pub(crate) fn write_place<R, M>(
+    rt: &R,
+    machines: &M,
+    words: &SetWords<'_>,
+    command: &[String],
+) -> Result<Takeable, Failure>
+where
     R: Files<File: OutputFile> + Clock + Input + Print + Eprint + AllocGlobal,
->(rt: &R, words: &SetWords<'_>, command: &[String]) -> Result<Takeable, Failure> {
+    M: Machines,
+{
     let set = read_set_file(rt, words.set)?;
     if !words.empty && !has_entry(&set) {
         return Err(Failure::refused(rt.alloc(), name_of(words.set), Reason::NoEntry));
@@ -42,7 +50,7 @@ pub(crate) fn write_place<
         into_set_file: kind == PlaceKind::Set,
         json: matches!(words.form, Form::Json),
     };
-    change_machine(rt, &options, kind, &wanted)?.give(rt)
+    machines.change(rt, &options, kind, &wanted)?.give(rt)
 }
 
 /// The variables of the set file at this path.

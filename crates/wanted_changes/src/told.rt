@@ -31,6 +31,29 @@ impl Told {
     }
 }
 
+/// What a run answers, and what is told of it.
+#[derive(Drop)]
+pub struct ToldAnswer<A> {
+    /// What it answers.
+    pub answer: A,
+    /// What is told.
+    pub told: Told,
+}
+
+impl<A: Drop> ToldAnswer<A> {
+    /// Tells what is told of the run, on standard error and on standard output, and gives what it answers.
+    ///
+    /// # Errors
+    ///
+    /// [`Failure::Write`] and [`Failure::Closed`] if it can't be printed.
+    pub fn give<R: Print + Eprint + AllocGlobal>(self, rt: &R) -> Result<A, Failure> {
+        let ToldAnswer { answer, told } = self;
+        told.remark(rt);
+        told.print(rt)?;
+        Ok(answer)
+    }
+}
+
 /// Lines for standard error.
 #[derive(Drop)]
 pub struct Remarks {

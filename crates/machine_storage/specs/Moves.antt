@@ -1,9 +1,9 @@
 -- What the changes are for that a machine's storage is asked to make.
 use Rattle.std.specs.Prelude.{Bool, true, false}
-use Rattle.machine_changes.specs.declared.moves.Moves.{Moves}
-use Rattle.machine_changes.specs.declared.moves.Moves.TheVariants.{Idle, Settling, First, Back}
-use Rattle.machine_changes.specs.declared.moves.Way.{Way}
-use Rattle.machine_changes.specs.declared.moves.Way.TheVariants.{Whatever, IfUnchanged, NotAtAll}
+use Rattle.machine_storage.specs.declared.moves.Moves.{Moves}
+use Rattle.machine_storage.specs.declared.moves.Moves.TheVariants.{Idle, Settling, First, Back}
+use Rattle.machine_storage.specs.declared.moves.Way.{Way}
+use Rattle.machine_storage.specs.declared.moves.Way.TheVariants.{Whatever, IfUnchanged, NotAtAll}
 
 -- what is being done after this, once the journal is replaced by one that has nothing left to do, or has something: an update
 -- of this run begins, or is taken back; what an earlier run left stays that

@@ -47,7 +47,7 @@ pub(crate) fn tell_of_settling<R: Eprint + AllocGlobal>(
 }
 
 /// Tells on standard error that an earlier update, by the journal in the folder at this path, has left something to do.
-pub(crate) fn tell_of_due<R: Eprint>(rt: &R, state: &str) {
+pub fn tell_of_due<R: Eprint>(rt: &R, state: &str) {
     note(
         rt,
         state,

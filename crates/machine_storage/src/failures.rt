@@ -20,7 +20,7 @@ impl Display for Cause<'_> {
 }
 
 /// What it is to the program that an update couldn't be made.
-pub(crate) fn from_updating(
+pub fn from_updating(
     alloc: Global,
     words: &MachineWords<'_>,
     error: UpdateError<Failure>,
@@ -34,7 +34,7 @@ pub(crate) fn from_updating(
 }
 
 /// What it is to the program that what was left of an earlier update couldn't be made.
-pub(crate) fn from_settling(
+pub fn from_settling(
     alloc: Global,
     words: &MachineWords<'_>,
     error: UpdateError<Failure>,

@@ -41,7 +41,7 @@ pub(crate) enum Place<F> {
 
 /// A place, and the file of its journal.
 #[derive(Drop)]
-pub(crate) struct PlaceStorage<'a, R: Files> {
+pub struct PlaceStorage<'a, R: Files> {
     /// What reaches them.
     pub(crate) rt: &'a R,
     /// The place.

@@ -1,6 +1,5 @@
 //! What a machine keeps of its variables: of those of the boot manager the attributes too.
 
-use crate::history::copies;
 use boot_journal::{AttributesFault, with_attributes};
 use messages::Failure;
 use std::alloc::{AllocError, Global};
@@ -10,24 +9,24 @@ use wanted_changes::leave_out;
 
 /// The variables of a machine, as it keeps them.
 #[derive(Drop)]
-pub(crate) struct KeptVars {
+pub struct KeptVars {
     /// The variables, those of the boot manager with their attributes in front of their data. An entry that no set can hold
     /// is there with data that stands for its own, so that its number is taken.
-    pub(crate) vars: Vars,
+    pub vars: Vars,
     /// The names of the variables of the boot manager that no set can hold.
-    pub(crate) left_out: Vec<String>,
+    pub left_out: Vec<String>,
     /// Whether the place is a folder.
-    pub(crate) is_folder: bool,
+    pub is_folder: bool,
 }
 
 impl KeptVars {
     /// The names of the variables that no set can hold, as a list of its own. This fails only when out of memory.
-    pub(crate) fn copy_left_out(&self, alloc: Global) -> Result<Vec<String>, Failure> {
+    pub fn copy_left_out(&self, alloc: Global) -> Result<Vec<String>, Failure> {
         Ok(copies(alloc, &self.left_out)?)
     }
 
     /// Lets those variables go that no set can hold, and that this set has: they are to be replaced, whatever they have.
-    pub(crate) fn let_go(&mut self, set: &Vars) {
+    pub fn let_go(&mut self, set: &Vars) {
         for name in &self.left_out {
             if set.get(name.as_str()).is_some() {
                 self.vars.remove(name.as_str());
@@ -94,4 +93,13 @@ fn take_numbers(vars: &mut Vars, left_out: &[String]) -> Result<(), AllocError> 
         }
     }
     Ok(())
+}
+
+/// The same texts. This fails only when out of memory.
+pub fn copies(alloc: Global, texts: &[String]) -> Result<Vec<String>, AllocError> {
+    let mut copies = Vec::with_capacity(alloc, texts.len())?;
+    for text in texts {
+        copies.push(text.clone()?)?;
+    }
+    Ok(copies)
 }

@@ -6,7 +6,7 @@ use Rattle.boot_journal.specs.Changes.{made}
 use Rattle.boot_journal.specs.Journal.{idle}
 use Rattle.boot_journal.specs.Store.{Store}
 use Rattle.boot_journal.proofs.Moments.{one_more}
-use Rattle.machine_changes.proofs.standing.after_changes.Goals as goal
+use Rattle.machine_storage.proofs.standing.after_changes.Goals as goal
 
 -- the next change makes one more
 next : (changes : List ChangeParts) (i : ℕ) (change : ChangeParts) (vars before after : Variables) (name : List ℕ) (value : Option (List ℕ))

@@ -21,20 +21,20 @@ use wanted_changes::MachineWords;
 
 /// What a machine stands for: its variables once what an earlier update has left to do is done.
 #[derive(Drop)]
-pub(crate) struct SettledVars {
+pub struct SettledVars {
     /// The variables, as the machine keeps them, with the BootKeepState of the journal.
-    pub(crate) vars: Vars,
+    pub vars: Vars,
     /// Whether an earlier update has left something to do.
-    pub(crate) is_due: bool,
+    pub is_due: bool,
 }
 
 /// What a machine stands for, with what is kept beside its journal.
 #[derive(Drop)]
-pub(crate) struct SettledMachine {
+pub struct SettledMachine {
     /// What it stands for.
-    pub(crate) settled: SettledVars,
+    pub settled: SettledVars,
     /// What is kept beside its journal: `None` if nothing is, or if the journal was another machine's.
-    pub(crate) notes: Option<Notes>,
+    pub notes: Option<Notes>,
 }
 
 /// What the machine of the words stands for, if it keeps this now, with what is kept beside its journal. Nothing is changed.
@@ -44,7 +44,7 @@ pub(crate) struct SettledMachine {
 /// [`Failure::Read`] if the journal can't be read; [`Failure::Refused`] if it is damaged, or is another machine's;
 /// [`Failure::Words`] if something is left to do, and the identity of the start is needed for it and isn't given, or it or
 /// the machine's name isn't one; and [`Failure::Memory`] if memory was refused.
-pub(crate) fn settled_machine<R: Files + Eprint + AllocGlobal>(
+pub fn settled_machine<R: Files + Eprint + AllocGlobal>(
     rt: &R,
     words: &MachineWords<'_>,
     kept: &KeptVars,
@@ -99,7 +99,7 @@ fn taken_journal<R: Files + Eprint + AllocGlobal>(
 /// # Errors
 ///
 /// As of [`settled_machine`], but of another machine's journal.
-pub(crate) fn settled_file<R: Files + Eprint + AllocGlobal>(
+pub fn settled_file<R: Files + Eprint + AllocGlobal>(
     rt: &R,
     words: &MachineWords<'_>,
     kept: &KeptVars,

@@ -28,7 +28,7 @@ fn new_notes<R: Files + AllocGlobal>(rt: &R) -> Option<Notes> {
 /// # Errors
 ///
 /// As of the storage's replacing of the journal: no notes are kept then.
-pub(crate) fn begin_notes<R: Files<File: OutputFile> + Input + Print + AllocGlobal>(
+pub fn begin_notes<R: Files<File: OutputFile> + Input + Print + AllocGlobal>(
     rt: &R,
     machine: &PlaceMachine<'_, R>,
 ) -> Result<(), Failure> {
@@ -43,6 +43,6 @@ pub(crate) fn begin_notes<R: Files<File: OutputFile> + Input + Print + AllocGlob
 }
 
 /// The notes that the storage writes with the journal. This fails only when out of memory.
-pub(crate) fn notes_of<R: Files>(storage: &PlaceStorage<'_, R>) -> Result<Rc<KeptNotes>, Failure> {
+pub fn notes_of<R: Files>(storage: &PlaceStorage<'_, R>) -> Result<Rc<KeptNotes>, Failure> {
     Ok(Rc::clone(&storage.notes)?)
 }

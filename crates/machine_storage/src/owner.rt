@@ -2,7 +2,7 @@
 
 ghost use Rattle.std.specs.Prelude.{◌≡◌, ◌≢◌, ◌↔◌, IfOk, IsTrue, OnOk};
 ghost use Rattle.std.specs.List.{AllByRecursion};
-ghost use Rattle.machine_changes.specs.Owner.{IsOther, IsNamedBy, IsAdopted, IsTaken};
+ghost use Rattle.machine_storage.specs.Owner.{IsOther, IsNamedBy, IsAdopted, IsTaken};
 ghost use Rattle.boot_journal.specs.JournalAttributes.{journal_kept};
 
 use crate::storage::PlaceStorage;

@@ -4,17 +4,7 @@ use messages::{Failure, Reason};
 use std::fs;
 use std::rt::Files;
 use var_places::{FileKind, STANDARD, file_kind, name_of, no_place, read};
-
-/// What a place is.
-#[derive(Clone, Copy, Debug, PartialEq, Eq)]
-pub enum PlaceKind {
-    /// A folder as Linux shows variables.
-    Folder,
-    /// An emulator's variable file.
-    VariableFile,
-    /// A set file.
-    Set,
-}
+use wanted_changes::PlaceKind;
 
 /// What the place at this path is, which is to be changed.
 ///

@@ -1,7 +1,7 @@
 //! The folder that has the journal of a machine.
 
 ghost use Rattle.std.specs.Prelude.{◌≡◌};
-ghost use Rattle.machine_changes.specs.StateAccess.{access_fault};
+ghost use Rattle.machine_storage.specs.StateAccess.{access_fault};
 
 use boot_journal::{JournalFault, JournalFile, read_journal};
 use boot_notes::{Notes, NotesFault, SplitNotes, split_notes};

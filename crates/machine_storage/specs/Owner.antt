@@ -7,11 +7,11 @@ use Rattle.uefi_vars.specs.Vars.{Variables}
 use Rattle.boot_journal.specs.JournalAttributes.{journal_kept}
 use Rattle.boot_journal.specs.Journal.{JournalParts, idle}
 use Rattle.boot_journal.specs.declared.journal_file.JournalFile.{JournalFile}
-use Rattle.machine_changes.specs.declared.owner.Identity.{Identity}
-use Rattle.machine_changes.specs.declared.owner.Names.{Names}
-use Rattle.machine_changes.specs.declared.owner.Names.TheVariants as whom
-use Rattle.machine_changes.specs.declared.owner.OwnJournal.{OwnJournal}
-use Rattle.machine_changes.specs.declared.owner.Owner.{Owner}
+use Rattle.machine_storage.specs.declared.owner.Identity.{Identity}
+use Rattle.machine_storage.specs.declared.owner.Names.{Names}
+use Rattle.machine_storage.specs.declared.owner.Names.TheVariants as whom
+use Rattle.machine_storage.specs.declared.owner.OwnJournal.{OwnJournal}
+use Rattle.machine_storage.specs.declared.owner.Owner.{Owner}
 
 -- it is another name
 abbrev pub IsOther : List ℕ → String Global → Type 0

@@ -22,13 +22,13 @@ use wanted_changes::{KeptNotes, MachineWords};
 use whole_files::OutputFile;
 
 /// A machine in a place, with its journal.
-pub(crate) type Machine<'a, R> = Recorded<PlaceStorage<'a, R>>;
+pub type Machine<'a, R> = Recorded<PlaceStorage<'a, R>>;
 
 /// A place that was read, and what its machine keeps. It is locked until this is dropped.
 #[derive(Drop)]
-pub(crate) struct OpenedPlace<F> {
+pub struct OpenedPlace<F> {
     pub(crate) place: Place<F>,
-    pub(crate) kept: KeptVars,
+    pub kept: KeptVars,
 }
 
 /// The folder or the variable file at the path of the words, locked: another state folder doesn't keep its changes from this
@@ -38,7 +38,7 @@ pub(crate) struct OpenedPlace<F> {
 ///
 /// [`Failure::Read`] and [`Failure::Write`] with the system's reason; [`Failure::Refused`] if it is neither of the two, or is
 /// damaged; [`Failure::Held`] if somebody else has its lock; and [`Failure::Memory`] if memory was refused.
-pub(crate) fn open_place<R: Files<File: OutputFile> + Input + Eprint + AllocGlobal>(
+pub fn open_place<R: Files<File: OutputFile> + Input + Eprint + AllocGlobal>(
     rt: &R,
     words: &MachineWords<'_>,
 ) -> Result<OpenedPlace<R::File>, Failure> {
@@ -55,7 +55,7 @@ pub(crate) fn open_place<R: Files<File: OutputFile> + Input + Eprint + AllocGlob
 /// # Errors
 ///
 /// As of [`open_place`].
-pub(crate) fn read_kept<R: Files + Input + Eprint + AllocGlobal>(
+pub fn read_kept<R: Files + Input + Eprint + AllocGlobal>(
     rt: &R,
     words: &MachineWords<'_>,
 ) -> Result<KeptVars, Failure> {
@@ -81,7 +81,7 @@ pub(crate) fn read_kept<R: Files + Input + Eprint + AllocGlobal>(
 /// [`Failure::Words`] if the identity of the start is needed and isn't given, or it or the machine's name isn't one;
 /// [`Failure::Read`] and [`Failure::Write`] with the system's reason; [`Failure::Refused`] if the journal is damaged, or is
 /// another machine's; and [`Failure::Memory`] if memory was refused.
-pub(crate) fn open_machine<'a, R: Files<File: OutputFile> + Input + Print + Eprint + AllocGlobal>(
+pub fn open_machine<'a, R: Files<File: OutputFile> + Input + Print + Eprint + AllocGlobal>(
     rt: &'a R,
     words: &MachineWords<'_>,
     opened: OpenedPlace<R::File>,
@@ -241,11 +241,11 @@ fn kept_of_file<R: Files + Input + Eprint + AllocGlobal>(
 
 /// A variable file or a set file that was read.
 #[derive(Drop)]
-pub(crate) struct KeptFile {
+pub struct KeptFile {
     /// Its bytes.
-    pub(crate) bytes: Vec<u8>,
+    pub bytes: Vec<u8>,
     /// What its machine keeps, or would keep of the set.
-    pub(crate) kept: KeptVars,
+    pub kept: KeptVars,
 }
 
 /// The set file at this path.
@@ -254,7 +254,7 @@ pub(crate) struct KeptFile {
 ///
 /// [`Failure::Read`] with the system's reason; [`Failure::Refused`] if it is damaged; and [`Failure::Memory`] if memory was
 /// refused.
-pub(crate) fn read_kept_set<R: Files + Input + AllocGlobal>(
+pub fn read_kept_set<R: Files + Input + AllocGlobal>(
     rt: &R,
     path: &str,
 ) -> Result<KeptFile, Failure> {
@@ -275,7 +275,7 @@ pub(crate) fn read_kept_set<R: Files + Input + AllocGlobal>(
 ///
 /// [`Failure::Read`] with the system's reason; [`Failure::Refused`] if it is none, or is damaged; and [`Failure::Memory`] if
 /// memory was refused.
-pub(crate) fn read_kept_file<R: Files + Input + Eprint + AllocGlobal>(
+pub fn read_kept_file<R: Files + Input + Eprint + AllocGlobal>(
     rt: &R,
     words: &MachineWords<'_>,
 ) -> Result<KeptFile, Failure> {

@@ -1,7 +1,7 @@
 //! What the changes are for that a machine's storage is asked to make.
 
 ghost use Rattle.std.specs.Prelude.{◌≡◌};
-ghost use Rattle.machine_changes.specs.Moves.{after_journal, way_for};
+ghost use Rattle.machine_storage.specs.Moves.{after_journal, way_for};
 
 /// What is being done to a machine, as the replacements of its journal tell.
 #[derive(Clone, Copy, Debug, PartialEq, Eq)]
