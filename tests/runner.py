@@ -149,12 +149,12 @@ def all_jobs(programs: Programs, quick: bool) -> List[Job]:
     files = {file: read_cases(file) for file in sorted(CASES.glob("*.json"))}
     wrong = {file: files.pop(file) for file in list(files) if file.name.startswith(WRONG)}
     jobs: List[Job] = []
-    for file, cases in files.items():
-        jobs += slow_jobs(programs, quick, file, [case for case in cases if case.is_slow])
     if quick:
         jobs.append(left_out("slow-checks", due_of("slow-checks.txt")))
     else:
         jobs.append(text_job(programs.case_runner, ["slow-checks"], "slow-checks.txt"))
+    for file, cases in files.items():
+        jobs += slow_jobs(programs, quick, file, [case for case in cases if case.is_slow])
     for file, cases in wrong.items():
         jobs += wrong_jobs(programs, file, cases)
     for file, cases in files.items():
