@@ -53,7 +53,7 @@ VARIANT = re.compile(
 LINK = re.compile(r"\[`(?:\w+::)?([^`]*)`\](?:\([^)]*\))?")
 LIMIT = re.compile(r"^pub const ([A-Z_]+): usize = ([\d_]+);$", re.MULTILINE)
 
-REASONS = "boot_texts/src/reason.rt"
+REASONS = ("value_texts/src/reason.rt", "boot_texts/src/frame_reason.rt")
 """Where `bootvars` says what faults are, in texts of its own."""
 
 SAID = re.compile(r'^        (\w+::\w+)[^=\n]*=> (?:"(.*)"|([A-Z_]+)),$', re.MULTILINE)
@@ -92,7 +92,7 @@ def read_faults(one: Input, root: Path = ROOT) -> List[Fault]:
 def read_reasons(root: Path = ROOT) -> Dict[str, str]:
     """How `bootvars` says faults, by their enums and names: those that it says by one text."""
     crates = root / "crates"
-    source = (crates / REASONS).read_text(encoding="utf-8")
+    source = "".join((crates / it).read_text(encoding="utf-8") for it in REASONS)
     constants = dict(re.findall(r'const (\w+): &str =\s+"(.*?)";', source))
     said = {name: text or constants.get(it, "") for name, text, it in SAID.findall(source)}
     of_sets = (crates / SET_REASONS).read_text(encoding="utf-8")

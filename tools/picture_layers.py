@@ -36,7 +36,7 @@ LAYERS = (
     Layer(
         "Words",
         "what is read of words and files, and what is printed",
-        ("messages", "boot_texts", "efibootmgr_words"),
+        ("messages", "value_texts", "efibootmgr_words"),
     ),
     Layer("Places of a machine", "its variables, files and disks", ("whole_files",)),
     Layer(
@@ -81,7 +81,8 @@ COVERS = (
         "code",
         "They say what it decides and leads to. What it reads, stores and prints, cases show.",
         (
-            *("request_preconditions", "command_words", "profile_files", "boot_commands"),
+            *("request_preconditions", "value_texts", "command_words", "profile_files"),
+            *("boot_commands",),
             *("boot_history", "disk_files", "wanted_changes", "boot_updates", "place_edits"),
             *("place_checks", "profile_changes", "bootkeep"),
         ),

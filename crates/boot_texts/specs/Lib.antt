@@ -1,6 +1,3 @@
--- what public contracts cite
-pub mod Description
-pub mod Json
 -- of the crates below, what they cite
 pub use Rattle.uefi_path.specs.declared.node.Node
 pub use Rattle.uefi_option.specs.LoadOption

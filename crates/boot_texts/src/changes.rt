@@ -1,12 +1,6 @@
 //! What differs between two sets of variables, by `bootvars diff`.
 
 use crate::at_risk::UnnamedWords;
-use crate::content::{Content, DataText, Quoted};
-use crate::json::{
-    JsonObject, JsonWriter, Leaf, append_leaf, append_leaves, append_object, append_objects,
-    json_line,
-};
-use crate::shown_option::{AttributeWords, ShownOption};
 use std::alloc::{AllocError, Global};
 use std::fmt::{self, Display};
 use uefi_path::Path;
@@ -15,6 +9,11 @@ use uefi_vars::{
     BootChange, EntryDigits, EntryName, NamingChange, Vars, boot_changes, entry_number,
     naming_change,
 };
+use value_texts::json::{
+    JsonObject, JsonWriter, Leaf, append_leaf, append_leaves, append_object, append_objects,
+    json_line,
+};
+use value_texts::{AttributeWords, Content, DataText, Quoted, ShownOption};
 
 /// What differs between two sets, as it is shown.
 #[derive(Drop)]

@@ -1,9 +1,9 @@
 //! Where in a script or a stream an event or a fault is.
 
-use crate::json::{JsonObject, JsonWriter, Leaf, append_leaves};
 use boot_requests::InputFormat;
 use std::alloc::AllocError;
 use std::fmt;
+use value_texts::json::{JsonObject, JsonWriter, Leaf, append_leaves};
 
 /// Where an event or a fault is.
 #[derive(Clone, Copy, Debug, PartialEq, Eq, Drop)]

@@ -1,19 +1,20 @@
 //! What the frames of a script or a stream ask for, by `bootvars explain`.
 
-use crate::content::{NumberList, Summary, option_place};
 use crate::event_position::EventPosition;
-use crate::json::{
-    JsonObject, JsonWriter, Leaf, append_leaf, append_leaves, append_object, append_objects,
-    json_line,
-};
-use crate::reason::{FaultReason, frame_reason, option_reason};
+use crate::frame_reason::frame_reason;
 use crate::script_reason::script_reason;
-use crate::shown_option::{AttributeWords, ShownOption};
 use boot_requests::{Event, EventList, FRAME_MAGIC, FrameFault, InputFormat, Request, read_frame};
 use std::alloc::{AllocError, Global};
 use std::fmt;
 use uefi_option::LoadOption;
 use uefi_vars::EntryDigits;
+use value_texts::json::{
+    JsonObject, JsonWriter, Leaf, append_leaf, append_leaves, append_object, append_objects,
+    json_line,
+};
+use value_texts::{
+    AttributeWords, FaultReason, NumberList, ShownOption, Summary, option_place, option_reason,
+};
 
 /// What a script or a stream asks for, in words.
 #[derive(Debug, Drop)]

@@ -1,13 +1,13 @@
 //! A look at a machine as JSON, as `bootvars update --look` prints it.
 
-use crate::json::{
-    JsonObject, JsonWriter, Leaf, append_leaves, append_object, append_objects, json_line,
-};
 use crate::replies::{ShownReply, ToldReply};
 use crate::shown_trial::TrialView;
 use crate::shown_vars::ShownVars;
 use std::alloc::{AllocError, Global};
 use uefi_vars::Vars;
+use value_texts::json::{
+    JsonObject, JsonWriter, Leaf, append_leaves, append_object, append_objects, json_line,
+};
 
 /// What a look at a machine tells, all of one moment.
 #[derive(Clone, Copy, Debug)]

@@ -1,9 +1,9 @@
 //! What a boot would try, as it is shown.
 
-use crate::content::NumberList;
-use crate::json::{JsonObject, JsonWriter, Leaf, append_leaves};
 use std::alloc::AllocError;
 use uefi_vars::{EntryDigits, PlanNumbers};
+use value_texts::NumberList;
+use value_texts::json::{JsonObject, JsonWriter, Leaf, append_leaves};
 
 /// What a boot would try, as JSON has it.
 #[derive(Clone, Copy)]

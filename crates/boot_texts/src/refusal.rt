@@ -1,7 +1,7 @@
 //! Refusals of updates as JSON.
 
-use crate::json::{JsonObject, JsonWriter, Leaf, append_leaves, append_object, json_line};
 use std::alloc::{AllocError, Global};
+use value_texts::json::{JsonObject, JsonWriter, Leaf, append_leaves, append_object, json_line};
 
 /// Why an update wasn't made, for whoever sent it.
 #[derive(Clone, Copy, Debug)]

@@ -1,15 +1,15 @@
 //! Replies to requests, as `bootvars update` prints them in JSON.
 
 use crate::event_position::EventPosition;
-use crate::json::{
-    JsonObject, JsonWriter, Leaf, append_leaf, append_leaves, append_object, append_objects,
-    json_line,
-};
+use crate::frame_reason::frame_words;
 use crate::plan::shown_plan;
-use crate::reason::frame_words;
 use boot_requests::{Answer, Outcome, Reply};
 use std::alloc::{AllocError, Global};
 use uefi_vars::{BootPlan, EntryDigits, PlanNumbers};
+use value_texts::json::{
+    JsonObject, JsonWriter, Leaf, append_leaf, append_leaves, append_object, append_objects,
+    json_line,
+};
 
 /// An answer to an event, and what is told besides.
 #[derive(Clone, Copy, Debug)]

@@ -1,8 +1,9 @@
 //! Why bytes are no script and no stream, in plain words.
 
-use crate::reason::{FaultReason, Sizes, frame_reason};
+use crate::frame_reason::frame_reason;
 use boot_requests::{FrameFault, ScriptFault, frame_len};
 use uefi_vars::SET_MAGIC;
+use value_texts::{FaultReason, Sizes};
 
 /// What a line begins with that delivers a frame.
 const DELIVER: &[u8] = b"deliver ";

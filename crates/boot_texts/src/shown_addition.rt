@@ -1,8 +1,8 @@
 //! Entries that were to be added, as they are shown, by `bootvars add`.
 
-use crate::json::{JsonObject, JsonWriter, Leaf, append_leaves, json_line};
 use std::alloc::{AllocError, Global};
 use uefi_vars::{EntryDigits, EntryName};
+use value_texts::json::{JsonObject, JsonWriter, Leaf, append_leaves, json_line};
 
 /// An entry that was to be added.
 #[derive(Clone, Copy, Debug, PartialEq, Eq)]

@@ -1,9 +1,9 @@
 //! What is to be said of numbers in BootOrder.
 
-use crate::content::NumberList;
-use crate::json::{JsonWriter, Leaf, append_leaves};
 use std::alloc::{AllocError, Global};
 use uefi_vars::Vars;
+use value_texts::NumberList;
+use value_texts::json::{JsonWriter, Leaf, append_leaves};
 
 /// What is to be said of numbers in BootOrder. Each list has its numbers once, by rising number.
 #[derive(Drop)]

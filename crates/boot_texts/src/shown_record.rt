@@ -1,8 +1,8 @@
 //! Changes that can be undone, as they are shown, by `bootvars undo --list`.
 
-use crate::json::{JsonObject, JsonWriter, Leaf, append_leaves, json_line};
 use messages::shown;
 use std::alloc::{AllocError, Global};
+use value_texts::json::{JsonObject, JsonWriter, Leaf, append_leaves, json_line};
 
 /// A change that can be undone.
 #[derive(Clone, Copy)]

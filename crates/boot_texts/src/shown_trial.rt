@@ -1,10 +1,10 @@
 //! A start on trial, as it is shown, by `bootvars try`, `confirm`, `show`, `check` and `update --look`.
 
-use crate::json::{JsonObject, JsonWriter, Leaf, append_leaves, append_object, json_line};
 use messages::Failure;
 use std::alloc::{AllocError, Global};
 use std::fmt;
 use uefi_vars::{EntryDigits, EntryName, Vars};
+use value_texts::json::{JsonObject, JsonWriter, Leaf, append_leaves, append_object, json_line};
 
 /// What there is to tell of a trial.
 #[derive(Clone, Copy, Debug, PartialEq, Eq)]

@@ -1,14 +1,7 @@
 //! Variables as they are shown, by `bootvars show`.
 
 use crate::at_risk::Risk;
-use crate::content::{ByteCount, Content, DataText, NumberList, ShownFault};
-use crate::json::{
-    JsonObject, JsonWriter, Leaf, append_leaf, append_leaves, append_object, append_objects,
-    json_line,
-};
 use crate::plan::{append_plan, shown_plan};
-use crate::settings::{BOOT_CURRENT, Timeout, bad_current, bad_timeout, number_of};
-use crate::shown_option::{AttributeWords, first_path, optional_digits, printed_text};
 use crate::shown_order::OrderMarks;
 use crate::shown_trial::{TrialView, append_trial, append_trial_member};
 use std::alloc::{AllocError, Global};
@@ -17,6 +10,14 @@ use uefi_option::{OptionView, check_option, is_active, is_normal};
 use uefi_vars::{
     AtRisk, BOOT_NEXT, BOOT_ORDER, EntryDigits, PlanNumbers, TIMEOUT, VarFault, Vars, entry_number,
     known_risks, plan_numbers,
+};
+use value_texts::json::{
+    JsonObject, JsonWriter, Leaf, append_leaf, append_leaves, append_object, append_objects,
+    json_line,
+};
+use value_texts::{
+    AttributeWords, BOOT_CURRENT, ByteCount, Content, DataText, NumberList, ShownFault, Timeout,
+    bad_current, bad_timeout, first_path, number_of, optional_digits, printed_text,
 };
 
 /// Variables as they are shown.

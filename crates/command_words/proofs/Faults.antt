@@ -10,7 +10,7 @@ use Rattle.uefi_option.specs.LoadOption.{list_bytes, list_max}
 use Rattle.uefi_option.specs.PartsFault.{IsPartsFault as IsMade}
 use Rattle.uefi_option.specs.declared.fault.OptionFault.{OptionFault}
 use Rattle.uefi_option.specs.declared.fault.OptionFault.TheVariants as option_fault
-use Rattle.boot_texts.specs.Description.{IsDescription}
+use Rattle.value_texts.specs.Description.{IsDescription}
 use Rattle.command_words.specs.declared.option.OptionWordsFault.{OptionWordsFault}
 use Rattle.command_words.specs.declared.option.OptionWordsFault.TheVariants as fault
 use Rattle.command_words.specs.OptionOfWords.{ArePathTexts}

@@ -7,4 +7,4 @@ pub use Rattle.uefi_path.specs.declared.node.Node
 pub use Rattle.uefi_option.specs.LoadOption
 pub use Rattle.uefi_text.specs.Bytes
 pub use Rattle.boot_requests.specs.declared.request.Request
-pub use Rattle.boot_texts.specs.Description
+pub use Rattle.value_texts.specs.Description

@@ -8,7 +8,7 @@ use Rattle.uefi_option.specs.LoadOption.{OptionParts}
 use Rattle.uefi_text.specs.Bytes.{Each}
 use Rattle.uefi_names.specs.Standard.{standard_table}
 use Rattle.uefi_names.specs.Reading.{IsNamedText}
-use Rattle.boot_texts.specs.Description.{IsDescription}
+use Rattle.value_texts.specs.Description.{IsDescription}
 use Rattle.command_words.specs.declared.option.Flags.{Flags}
 use Rattle.command_words.specs.declared.option.OptionPaths.{OptionPaths}
 use Rattle.command_words.specs.declared.option.OptionPaths.TheVariants.{Texts, Paths}

@@ -7,9 +7,9 @@ use Rattle.uefi_option.specs.declared.fault.OptionFault.{OptionFault}
 use Rattle.uefi_option.specs.declared.fault.OptionFault.TheVariants as option_fault
 use Rattle.uefi_names.specs.Standard.{standard_table}
 use Rattle.uefi_names.specs.Reading.{IsNamedText}
-use Rattle.boot_texts.specs.declared.description.DescriptionFault.{DescriptionFault}
-use Rattle.boot_texts.specs.declared.description.DescriptionFault.TheVariants as description_fault
-use Rattle.boot_texts.specs.Description.{IsDescription, IsDescriptionFault}
+use Rattle.value_texts.specs.declared.description.DescriptionFault.{DescriptionFault}
+use Rattle.value_texts.specs.declared.description.DescriptionFault.TheVariants as description_fault
+use Rattle.value_texts.specs.Description.{IsDescription, IsDescriptionFault}
 use Rattle.command_words.specs.declared.option.OptionPaths.{OptionPaths}
 use Rattle.command_words.specs.declared.option.OptionPaths.TheVariants.{Texts, Paths}
 use Rattle.command_words.specs.declared.option.OptionWords.{OptionWords}

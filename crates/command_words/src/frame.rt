@@ -7,11 +7,12 @@ ghost use Rattle.boot_requests.specs.Frame.{SpellsFrame};
 ghost use Rattle.command_words.specs.Frame.{AsksFor};
 
 use boot_requests::{FrameFault, OrderList, Request, write_frame};
-use boot_texts::{FaultReason, frame_words, option_reason};
+use boot_texts::frame_words;
 use std::alloc::{AllocError, AllocFailed, Global};
 use std::collections::BTreeSet;
 use thiserror::Error;
 use uefi_option::{LoadOption, OptionFault, read_option};
+use value_texts::{FaultReason, option_reason};
 
 /// What a frame is to ask for. An option is given by its bytes (UEFI 2.10, 3.1.3).
 #[derive(Clone, Copy, Debug)]

@@ -13,9 +13,6 @@ ghost use Rattle.uefi_names.specs.declared.fault.NamedFault.TheVariants as named
 ghost use Rattle.command_words.specs.declared.option.OptionWordsFault.TheVariants as words_fault;
 ghost use Rattle.command_words.specs.OptionWordsFault.{of_option, of_description, StandsForNone, IsTextFault, IsTextsFault, IsOptionFault, IsWordsFault};
 
-use boot_texts::{
-    DescriptionFault, FaultReason, append_text_units, description_units, named_reason, option_words,
-};
 use std::alloc::{AllocError, AllocFailed, Global};
 use thiserror::Error;
 use uefi_names::{NamedFault, read_named_text};
@@ -24,6 +21,9 @@ use uefi_option::{
 };
 use uefi_path::{Node, Path, append_units, check_path};
 use uefi_text::TextFault;
+use value_texts::{
+    DescriptionFault, FaultReason, append_text_units, description_units, named_reason, option_words,
+};
 
 /// What is said of a word in a path that is neither a node nor the name of a file.
 const PLAIN_NAME: &str =

@@ -5,7 +5,6 @@ use crate::machine::{Machine, place, state_of};
 use crate::steps::make_changes;
 use crate::stopped::{Step, Stopped};
 use crate::told_once::ToldOnce;
-use boot_texts::option_reason;
 use efibootmgr_words::{Asked, HELP, ListForm, VERSION, WordFault, list_vars, options, read_words};
 use messages::{Failure, note, print};
 use std::alloc::AllocError;
@@ -13,6 +12,7 @@ use std::fmt::Display;
 use std::rt::{Clock, Env, Files};
 use uefi_option::check_option;
 use uefi_vars::{EntryNameIn, Vars};
+use value_texts::option_reason;
 use wanted_changes::Machines;
 use whole_files::OutputFile;
 

@@ -2,7 +2,6 @@
 
 use crate::image::SeenImage;
 use crate::machine::{Machine, Seen};
-use boot_texts::option_reason;
 use entry_checks::{Lead, Target, destination, path_target};
 use messages::Failure;
 use partitions::PartitionId;
@@ -11,6 +10,7 @@ use std::rt::Files;
 use uefi_names::named_text;
 use uefi_option::{LoadOption, OptionFault, description_text, read_option};
 use uefi_path::Path;
+use value_texts::option_reason;
 
 /// An entry that was looked at.
 #[derive(Drop)]

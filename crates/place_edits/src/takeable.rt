@@ -7,7 +7,6 @@ ghost use Rattle.uefi_vars.specs.Attributes.{attributes_len};
 ghost use Rattle.uefi_vars.specs.Name.{order_text, next_text};
 ghost use Rattle.place_edits.specs.Takeable.{IsNoOption, IsRefused, IsOut, AreOut, IsChangedAt, IsWithout, IsTaken};
 
-use boot_texts::option_reason;
 use messages::{Failure, Reason};
 use std::alloc::{AllocError, Global};
 use uefi_option::check_option;
@@ -16,6 +15,7 @@ use uefi_vars::{
     ATTRIBUTES_LEN, BOOT_NEXT, BOOT_ORDER, EntryName, TIMEOUT, Vars, entry_number,
     laws as vars_laws,
 };
+use value_texts::option_reason;
 use wanted_changes::Remarks;
 
 /// What a place is to have, as far as firmware takes it.

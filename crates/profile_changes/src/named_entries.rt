@@ -78,7 +78,7 @@ fn naming_of(
     Ok(EntryNaming::Name(spelled(alloc, &units)?))
 }
 
-/// A description as files spell it ([`description_units`](boot_texts::description_units)): each character as itself, but
+/// A description as files spell it ([`description_units`](value_texts::description_units)): each character as itself, but
 /// a backslash and half of a pair in UTF-16 as `\u` and four digits. This fails only when out of memory.
 fn spelled(alloc: Global, units: &[u16]) -> Result<String, AllocError> {
     let mut text = String::new(alloc);

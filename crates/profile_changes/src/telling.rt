@@ -1,8 +1,8 @@
 //! What is told of a profile that is applied.
 
 use boot_texts::changes_text;
-use boot_texts::json::{JsonObject, JsonWriter, Leaf, append_leaf, json_line};
 use std::alloc::{AllocError, Global};
+use value_texts::json::{JsonObject, JsonWriter, Leaf, append_leaf, json_line};
 use wanted_changes::SetChange;
 
 /// What a person is told if nothing is changed.

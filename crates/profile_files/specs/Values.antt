@@ -4,7 +4,7 @@ use Rattle.std.specs.declared.alloc.Global.{Global}
 use Rattle.std.specs.Char.Escape.{encode_utf16}
 use Rattle.std.specs.Str.{chars}
 use Rattle.uefi_path.specs.Units.{units_bytes}
-use Rattle.boot_texts.specs.Description.{IsDescription}
+use Rattle.value_texts.specs.Description.{IsDescription}
 use Rattle.profile_files.specs.declared.tree.Node.{Node}
 use Rattle.profile_files.specs.declared.tree.Node.TheVariants as node
 use Rattle.profile_files.specs.declared.written.WrittenName.{WrittenName}

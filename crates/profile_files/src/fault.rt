@@ -1,12 +1,12 @@
 //! Why files are refused.
 
 use crate::position::Position;
-use boot_texts::DescriptionFault;
 use std::alloc::{AllocError, AllocFailed};
 use std::fmt;
 use thiserror::Error;
 use toml_parser::{ErrorKind, ParseError};
 use uefi_option::OptionFault;
+use value_texts::DescriptionFault;
 
 /// Why a file is no profile.
 #[derive(Clone, Copy, Debug, PartialEq, Eq, Error)]

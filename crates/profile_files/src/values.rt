@@ -8,10 +8,10 @@ ghost use Rattle.profile_files.specs.Values.{IsFlag, IsText, IsName, IsDescripti
 use crate::fault::{FileFault, Stop, Wanted};
 use crate::tree::{Key, Members, Node, member};
 use crate::written::{WrittenName, WrittenText};
-use boot_texts::{DescriptionFault, append_text_units, description_units};
 use hex::FromHexError;
 use std::alloc::{AllocError, Global};
 use uefi_path::append_units;
+use value_texts::{DescriptionFault, append_text_units, description_units};
 
 /// Refuses members that have another name than these, or that are there twice.
 pub(crate) fn check_names(members: &[(Key, Node)], names: &[&str]) -> Result<(), Stop>
@@ -127,7 +127,7 @@ pub(crate) fn name_of(alloc: Global, node: &Node) -> Result<WrittenName, Stop>
 }
 
 /// The bytes of the units of the description for which a text at a place stands, as
-/// [`description_units`](boot_texts::description_units) reads it.
+/// [`description_units`](value_texts::description_units) reads it.
 fn description_bytes(alloc: Global, place: usize, text: &str) -> Result<Vec<u8>, Stop>
     ensures { IfOk result (λ bytes. IsDescriptionOf text.now bytes.items) }
 {

@@ -1,7 +1,7 @@
 use Rattle.std.proofs.Common.{refl, subst, sym}
 use Rattle.std.specs.Prelude.{Err}
 use Rattle.std.specs.Str.{chars}
-use Rattle.boot_texts.specs.Description.{IsDescription}
+use Rattle.value_texts.specs.Description.{IsDescription}
 use Rattle.command_words.specs.OptionWordsFault.{of_option, IsOptionFault}
 use Rattle.command_words.proofs.Faults.{made_fault, as_words}
 use Rattle.command_words.proofs.option.option_of.Goals as goal

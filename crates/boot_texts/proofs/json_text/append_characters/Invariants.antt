@@ -1,7 +1,0 @@
-use Rattle.std.proofs.Common.{◌≡◌, ◌++◌, flat_map}
-use Rattle.std.specs.String.{string_bytes}
-use Rattle.boot_texts.specs.Json.{character_json}
-use Rattle.boot_texts.proofs.json_text.append_characters.Given as goal
-
-abbrev pub invariant-loop-character : goal.invariant-loop-character
-invariant-loop-character l = string_bytes l.json ≡ string_bytes l.initial.json ++ flat_map character_json l.yielded
