@@ -27,10 +27,11 @@ CRATE = "case_runner"
 
 LIBRARIES = (
     "uefi_path uefi_text uefi_names uefi_option partitions efi_images uefi_vars var_stores "
-    "boot_requests whole_files machine_names boot_journal journaled_requests boot_moves boot_edits "
-    "boot_commands messages value_texts boot_texts command_words var_places change_records boot_history "
-    "wanted_changes machine_storage machine_changes boot_updates disk_files boot_trials boot_profiles place_edits "
-    "trial_changes profile_changes efibootmgr_runs var_commands serde_json hex anyhow"
+    "boot_requests whole_files machine_names boot_journal journaled_requests boot_moves "
+    "boot_edits boot_commands messages value_texts boot_texts request_texts command_words "
+    "var_places change_records boot_history wanted_changes machine_storage machine_changes "
+    "boot_updates disk_files boot_trials boot_profiles place_edits trial_changes profile_changes "
+    "efibootmgr_runs var_commands serde_json hex anyhow"
 )
 """What it stands on."""
 

@@ -53,7 +53,7 @@ VARIANT = re.compile(
 LINK = re.compile(r"\[`(?:\w+::)?([^`]*)`\](?:\([^)]*\))?")
 LIMIT = re.compile(r"^pub const ([A-Z_]+): usize = ([\d_]+);$", re.MULTILINE)
 
-REASONS = ("value_texts/src/reason.rt", "boot_texts/src/frame_reason.rt")
+REASONS = ("value_texts/src/reason.rt", "request_texts/src/frame_reason.rt")
 """Where `bootvars` says what faults are, in texts of its own."""
 
 SAID = re.compile(r'^        (\w+::\w+)[^=\n]*=> (?:"(.*)"|([A-Z_]+)),$', re.MULTILINE)

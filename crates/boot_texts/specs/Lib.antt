@@ -6,4 +6,3 @@ pub use Rattle.uefi_text.specs.Path
 pub use Rattle.uefi_vars.specs.Vars
 pub use Rattle.uefi_vars.specs.Order
 pub use Rattle.uefi_vars.specs.AtRisk
-pub use Rattle.boot_requests.specs.declared.request.Request

@@ -1,6 +1,5 @@
 //! What a check finds of the boot entries of a place, as it is shown, by `bootvars check`.
 
-use crate::plan::{append_plan, shown_plan};
 use crate::shown_trial::{TrialView, append_trial, append_trial_member};
 use std::alloc::{AllocError, Global};
 use std::fmt;
@@ -9,7 +8,7 @@ use value_texts::json::{
     JsonObject, JsonWriter, Leaf, append_leaf, append_leaves, append_object, append_objects,
     json_line,
 };
-use value_texts::{BAD_NEXT, BAD_ORDER};
+use value_texts::{BAD_NEXT, BAD_ORDER, append_plan, shown_plan};
 
 /// What is found of a place.
 #[derive(Drop)]

@@ -1,7 +1,6 @@
 //! Variables as they are shown, by `bootvars show`.
 
 use crate::at_risk::Risk;
-use crate::plan::{append_plan, shown_plan};
 use crate::shown_order::OrderMarks;
 use crate::shown_trial::{TrialView, append_trial, append_trial_member};
 use std::alloc::{AllocError, Global};
@@ -17,12 +16,13 @@ use value_texts::json::{
 };
 use value_texts::{
     AttributeWords, BOOT_CURRENT, ByteCount, Content, DataText, NumberList, ShownFault, Timeout,
-    bad_current, bad_timeout, first_path, number_of, optional_digits, printed_text,
+    append_plan, bad_current, bad_timeout, first_path, number_of, optional_digits, printed_text,
+    shown_plan,
 };
 
-/// Variables as they are shown.
+/// Variables as they are shown: as an object of JSON with the members that [`vars_json`] has.
 #[derive(Drop)]
-pub(crate) struct ShownVars<'a> {
+pub struct ShownVars<'a> {
     /// How many there are.
     variables: usize,
     /// The entries, by rising number.
@@ -115,7 +115,11 @@ impl JsonObject for OtherVariable<'_> {
 
 impl<'a> ShownVars<'a> {
     /// What is shown of the variables, and of the start on trial, if one is known.
-    pub(crate) fn new(
+    ///
+    /// # Errors
+    ///
+    /// [`AllocError`] if memory was refused.
+    pub fn new(
         alloc: Global,
         vars: &'a Vars,
         trial: Option<TrialView>,

@@ -3,8 +3,8 @@ use Rattle.std.specs.Prelude.{ℕ, ◌^◌, nat_lt, List, ◌++◌, codes, Optio
 use Rattle.boot_requests.specs.declared.script_fault.ScriptFault.TheVariants as fault
 use Rattle.boot_requests.specs.ScriptWords.{script_fault_words}
 use Rattle.boot_requests.specs.Words.{open_fault_words}
-use Rattle.boot_texts.specs.declared.refusal.Remedy.{Remedy}
-use Rattle.boot_texts.specs.declared.refusal.Remedy.TheVariants as remedy
+use Rattle.request_texts.specs.declared.refusal.Remedy.{Remedy}
+use Rattle.request_texts.specs.declared.refusal.Remedy.TheVariants as remedy
 use Rattle.messages.specs.declared.failure.Failure.{Failure}
 use Rattle.messages.specs.declared.failure.Failure.TheVariants as failure
 use Rattle.boot_updates.specs.declared.not_made.Refused.{Refused}

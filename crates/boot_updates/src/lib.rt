@@ -9,6 +9,7 @@
 
 mod guarded;
 mod left_out;
+mod look;
 mod not_made;
 mod noted;
 mod numbers;

@@ -6,9 +6,9 @@ ghost use Rattle.messages.specs.declared.failure.Failure.TheVariants as failure;
 ghost use Rattle.boot_updates.specs.NotMade.{count_of, failure_word, kind_of, refused_for, remedy_of};
 
 use boot_requests::{OpenFault, ScriptFault};
-use boot_texts::{Remedy, open_reason};
 use journaled_requests::RunFault;
 use messages::Failure;
+use request_texts::{Remedy, open_reason};
 use std::alloc::{AllocError, AllocFailed, Global};
 
 /// Why an update wasn't made.

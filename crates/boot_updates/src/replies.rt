@@ -14,10 +14,11 @@ ghost use Rattle.boot_updates.specs.Replies.{IsBelow, IsNumberBelow, IsCarriedOu
 ghost use Rattle.boot_updates.specs.Told.{IsNoOther};
 ghost use Rattle.boot_updates.specs.declared.replies.Ended.TheVariants as ended;
 
+use crate::look::{UnmetWords, unmet_json};
 use crate::requests_run::Answered;
 use crate::script::Script;
 use boot_requests::{Answer, Code, Outcome, Reply, reply_line};
-use boot_texts::{EventPosition, ToldReply, UnmetWords, reply_json, unmet_json};
+use request_texts::{EventPosition, ToldReply, reply_json};
 use std::alloc::{AllocError, Global};
 
 /// How an update ended that was made.

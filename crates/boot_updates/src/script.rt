@@ -2,8 +2,8 @@
 
 use crate::not_made::{NotMade, Refused};
 use boot_requests::{Event, EventList, InputFormat};
-use boot_texts::refused_script;
 use messages::Failure;
+use request_texts::refused_script;
 use std::alloc::Global;
 use std::rt::Files;
 use var_places::{name_of, read};

@@ -2,12 +2,13 @@
 
 use crate::guarded::Unmet;
 use crate::left_out::check_requests;
+use crate::look::{Look, look_json};
 use crate::not_made::{NotMade, from_run};
 use crate::replies::{Replies, ReplyForm, next_in};
 use crate::requests_run::{Answered, RequestsRun};
 use crate::script::Script;
 use boot_journal::CallError;
-use boot_texts::{Look, TellsTrial, UnnamedWords, changes_text, look_json};
+use boot_texts::{TellsTrial, UnnamedWords, changes_text};
 use journaled_requests::{Requests, RunFault};
 use messages::Failure;
 use request_preconditions::Precondition;

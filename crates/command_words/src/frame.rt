@@ -7,7 +7,7 @@ ghost use Rattle.boot_requests.specs.Frame.{SpellsFrame};
 ghost use Rattle.command_words.specs.Frame.{AsksFor};
 
 use boot_requests::{FrameFault, OrderList, Request, write_frame};
-use boot_texts::frame_words;
+use request_texts::frame_words;
 use std::alloc::{AllocError, AllocFailed, Global};
 use std::collections::BTreeSet;
 use thiserror::Error;

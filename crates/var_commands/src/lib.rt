@@ -4,7 +4,7 @@
 //!
 //! [`run`] does what the words of a command line ask for, and returns the status to end with. Where variables are is a
 //! place, which the library `var_places` reads and changes; the messages and the statuses of what goes wrong are in the
-//! library `messages`. What is printed of variables and requests is in the library `boot_texts`, and what the words of the
+//! library `messages`. What is printed of variables is in `boot_texts`, of requests in `request_texts`, and what the words of the
 //! command line ask for in `bootvars_actions`; here is what is done for each.
 #![tactic(auto)]
 

@@ -1,7 +1,6 @@
 //! The commands `option`, `frame` and `explain`, which make load options and requests, and show requests.
 
 use boot_requests::InputFormat;
-use boot_texts::{explain_json, explain_report};
 use bootvars_actions::{
     AttributeWords, Form, LoadOptionWords, LoaderWords, OptionalWords, PathWords, RequestWords,
 };
@@ -14,6 +13,7 @@ use disk_files::{disk_path, loader_path};
 use hex::FromHexError;
 use messages::{Failure, Quoted, Reason, WrongWord, note, print};
 use place_checks::{LoaderNote, note_of_file, note_of_path};
+use request_texts::{explain_json, explain_report};
 use std::alloc::{AllocError, Global};
 use std::rt::Files;
 use uefi_path::Path;

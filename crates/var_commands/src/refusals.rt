@@ -1,10 +1,10 @@
 //! What is told of an update that wasn't made, as JSON.
 
 use boot_journal::Journal;
-use boot_texts::{Refusal, refusal_json};
 use boot_updates::{NotMade, next_number};
 use machine_storage::{StoredJournal, journal_path, set_value, stored_with_notes};
 use messages::{Failure, print};
+use request_texts::{Refusal, refusal_json};
 use std::alloc::{AllocError, Global};
 use std::rt::Files;
 use uefi_vars::{KEEP_STATE, Vars};

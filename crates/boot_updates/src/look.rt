@@ -1,8 +1,7 @@
 //! A look at a machine as JSON, as `bootvars update --look` prints it.
 
-use crate::replies::{ShownReply, ToldReply};
-use crate::shown_trial::TrialView;
-use crate::shown_vars::ShownVars;
+use boot_texts::{ShownVars, TrialView};
+use request_texts::{ShownReply, ToldReply};
 use std::alloc::{AllocError, Global};
 use uefi_vars::Vars;
 use value_texts::json::{
@@ -11,30 +10,30 @@ use value_texts::json::{
 
 /// What a look at a machine tells, all of one moment.
 #[derive(Clone, Copy, Debug)]
-pub struct Look<'a> {
+pub(crate) struct Look<'a> {
     /// The next number.
-    pub next: u32,
+    pub(crate) next: u32,
     /// The identity of the journal, if it has one.
-    pub journal: Option<&'a str>,
+    pub(crate) journal: Option<&'a str>,
     /// The identity of the machine's start, if it is known.
-    pub start: Option<&'a str>,
+    pub(crate) start: Option<&'a str>,
     /// What isn't as it was expected, if something isn't: then no event was run.
-    pub unmet: Option<UnmetWords<'a>>,
+    pub(crate) unmet: Option<UnmetWords<'a>>,
     /// The start on trial, if there is one.
-    pub trial: Option<TrialView>,
+    pub(crate) trial: Option<TrialView>,
     /// The replies to the events that were run, in their order.
-    pub replies: &'a [ToldReply<'a>],
+    pub(crate) replies: &'a [ToldReply<'a>],
     /// The variables after them.
-    pub vars: &'a Vars,
+    pub(crate) vars: &'a Vars,
 }
 
 /// What isn't as it was expected, in the words of preconditions.
 #[derive(Clone, Copy, Debug)]
-pub struct UnmetWords<'a> {
+pub(crate) struct UnmetWords<'a> {
     /// What was expected, such as `next=7`.
-    pub expected: &'a str,
+    pub(crate) expected: &'a str,
     /// What is so instead, such as `next=9`.
-    pub found: &'a str,
+    pub(crate) found: &'a str,
 }
 
 impl JsonObject for UnmetWords<'_> {
@@ -54,7 +53,7 @@ impl JsonObject for UnmetWords<'_> {
 /// # Errors
 ///
 /// [`AllocError`] if memory was refused.
-pub fn unmet_json(alloc: Global, unmet: UnmetWords<'_>) -> Result<String, AllocError> {
+pub(crate) fn unmet_json(alloc: Global, unmet: UnmetWords<'_>) -> Result<String, AllocError> {
     json_line(alloc, &ShownUnmet { unmet })
 }
 
@@ -98,13 +97,14 @@ impl JsonObject for ShownLook<'_> {
 }
 
 /// Shows a look at a machine as JSON, an object on one line that ends with a line feed: the next number, the identities of
-/// the journal and of the machine's start, what isn't as it was expected, the replies as [`reply_json`](crate::reply_json) has them, and what
-/// [`vars_json`](crate::vars_json) has. docs/formats.md has each member.
+/// the journal and of the machine's start, what isn't as it was expected, the replies as
+/// [`reply_json`](request_texts::reply_json) has them, and what [`vars_json`](boot_texts::vars_json) has. docs/formats.md has
+/// each member.
 ///
 /// # Errors
 ///
 /// [`AllocError`] if memory was refused.
-pub fn look_json(alloc: Global, look: &Look<'_>) -> Result<String, AllocError> {
+pub(crate) fn look_json(alloc: Global, look: &Look<'_>) -> Result<String, AllocError> {
     let mut replies = Vec::with_capacity(alloc, look.replies.len())?;
     for told in look.replies {
         replies.push(ShownReply::new(alloc, told)?)?;

@@ -1,18 +1,18 @@
 //! What a boot would try, as it is shown.
 
+use crate::content::NumberList;
+use crate::json::{JsonObject, JsonWriter, Leaf, append_leaves};
 use std::alloc::AllocError;
 use uefi_vars::{EntryDigits, PlanNumbers};
-use value_texts::NumberList;
-use value_texts::json::{JsonObject, JsonWriter, Leaf, append_leaves};
 
 /// What a boot would try, as JSON has it.
 #[derive(Clone, Copy)]
-pub(crate) struct ShownPlan<'a> {
+pub struct ShownPlan<'a> {
     plan: &'a PlanNumbers,
 }
 
 /// What is shown of what a boot would try, if that is known.
-pub(crate) fn shown_plan(plan: &Option<PlanNumbers>) -> Option<ShownPlan<'_>> {
+pub fn shown_plan(plan: &Option<PlanNumbers>) -> Option<ShownPlan<'_>> {
     match plan {
         Some(plan) => Some(ShownPlan { plan }),
         None => None,
@@ -32,11 +32,12 @@ impl JsonObject for ShownPlan<'_> {
 }
 
 /// Appends the line of what a boot would try (UEFI 2.10, 3.1.1): the entry of BootNext and the normal ones of BootOrder, or
-/// that it isn't known, since one of the two can't be read. This fails only when out of memory.
-pub(crate) fn append_plan(
-    plan: Option<&PlanNumbers>,
-    report: &mut String,
-) -> Result<(), AllocError> {
+/// that it isn't known, since one of the two can't be read.
+///
+/// # Errors
+///
+/// [`AllocError`] if memory was refused.
+pub fn append_plan(plan: Option<&PlanNumbers>, report: &mut String) -> Result<(), AllocError> {
     match plan {
         Some(plan) => {
             let next = NumberList(plan.next.as_slice());

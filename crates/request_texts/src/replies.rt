@@ -2,7 +2,6 @@
 
 use crate::event_position::EventPosition;
 use crate::frame_reason::frame_words;
-use crate::plan::shown_plan;
 use boot_requests::{Answer, Outcome, Reply};
 use std::alloc::{AllocError, Global};
 use uefi_vars::{BootPlan, EntryDigits, PlanNumbers};
@@ -10,6 +9,7 @@ use value_texts::json::{
     JsonObject, JsonWriter, Leaf, append_leaf, append_leaves, append_object, append_objects,
     json_line,
 };
+use value_texts::shown_plan;
 
 /// An answer to an event, and what is told besides.
 #[derive(Clone, Copy, Debug)]
@@ -28,9 +28,9 @@ pub struct ToldReply<'a> {
     pub journal: Option<&'a str>,
 }
 
-/// A reply as it is shown.
+/// A reply as it is shown: as an object of JSON with the members that [`reply_json`] has.
 #[derive(Drop)]
-pub(crate) struct ShownReply<'a> {
+pub struct ShownReply<'a> {
     /// Where the event is.
     place: EventPosition,
     /// The number of the request, if the event is one.
@@ -123,7 +123,11 @@ pub fn reply_json(alloc: Global, told: &ToldReply<'_>) -> Result<String, AllocEr
 
 impl<'a> ShownReply<'a> {
     /// What is shown of the answer.
-    pub(crate) fn new(alloc: Global, told: &ToldReply<'a>) -> Result<ShownReply<'a>, AllocError> {
+    ///
+    /// # Errors
+    ///
+    /// [`AllocError`] if memory was refused.
+    pub fn new(alloc: Global, told: &ToldReply<'a>) -> Result<ShownReply<'a>, AllocError> {
         let ToldReply {
             place,
             answer,
